@@ -1,0 +1,11 @@
+pub mod Basics
+pub mod Machine
+pub mod Masks
+pub mod Records
+pub mod SearchOrder
+pub mod Calls
+pub mod Book
+pub mod Text
+pub mod Journal
+pub mod Replies
+pub mod Examples
