@@ -1,7 +1,7 @@
 -- Document 01, "Shown by example": the examples marked T, in one table, and the one statement that all of them come out right.
 use Prim.Native.Nat.{ℕ, zero, suc, _/_}
 use mathlib.Core.Bool.{Bool, true, false, _&&_}
-use mathlib.Core.List.{List, [], _∷_, map}
+use mathlib.Core.List.{List, [], _∷_, _++_, map}
 use lib.ListN.{getD, replicate}
 use lib.Dec.{T, eqb}
 use Rattle.rules.specs.Basics.{openBasics, sum, all, any, from, same}
@@ -91,8 +91,8 @@ sameAnswers (x ∷ xs) (y ∷ ys) = same (numbers x) (numbers y) && sameAnswers 
 abbrev pub right : Example → Bool
 right (pages mode flag user places cpu wanted) =
     sameAnswers
-    (answers machineA (final machineA (start machineA) (setUp mode flag user places)) (map (λ a. request 0 cpu) wanted))
-    wanted
+    (answers machineA (start machineA) (setUp mode flag user places ++ map (λ a. request 0 cpu) wanted))
+    (done ∷ done ∷ wanted)
 right (visits cpu wanted) =
     same (map (λ s. s .node) (orderOf machineA (final machineA (start machineA) (setUp 0 0 0 [])) 0 cpu)) wanted
 right (effective calls wanted) =

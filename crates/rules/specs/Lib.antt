@@ -9,3 +9,4 @@ pub mod Text
 pub mod Journal
 pub mod Replies
 pub mod Examples
+pub mod MoreExamples
