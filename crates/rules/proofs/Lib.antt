@@ -1,1 +1,12 @@
+pub mod Lists
+pub mod Sorted
 pub mod Masks
+pub mod Turns
+pub mod Bytes
+pub mod Records
+pub mod WellFormed
+pub mod Kept
+pub mod Near
+pub mod Pages
+pub mod Calls
+pub mod Book

@@ -8,14 +8,14 @@ use native.Mathlib.Nat.{le-refl, le-trans, le-of-eq, lt-of-lt-of-le, lt-of-le-of
 use native.Mathlib.Numerals.{add-one, one-add}
 use native.Mathlib.Omega.{arith}
 use lib.Arith.{digits-mod, digits-div, lt-one, le-zero}
-use native.Mathlib.Decide.{le-ind, ℕ-discrete}
-use native.Mathlib.Nat.{add-suc, lt-of-not-le, add-sub-of-le, eq-or-lt-of-le, eq-zero-or-pos, div-self, div-one, le-total, lt-irrefl, le-of-lt}
+use native.Mathlib.Decide.{le-ind, ℕ-discrete, decLt}
+use native.Mathlib.Nat.{add-suc, lt-of-not-le, add-sub-of-le, eq-or-lt-of-le, eq-zero-or-pos, div-self, div-one, le-total, lt-irrefl, le-of-lt, div-lt-iff-lt-mul}
 use lib.Pow.{le-ones, not-mod, ones-lt, pow-pos, pow-mono, pow-lt, pow-add, split, mod-pow-add, field, shr-shr, shr-lt, shr-le, high, low, ones-split}
 use lib.Bits.{bitXor, differ, xor-step, xor-shr, xor-add-and, and-self, and-le-r, bitAnd, bitOr, and-step, or-step, and-shr, or-shr, and-mask, and-high, or-lt, and-le-l, and-lt, or-add-and, and-comm, or-comm}
 use lib.Count.{ones, ones-step, ones-cat, trailingZeros, under}
 use lib.Dec.{eqb, ltb}
 use borrow.Author.Tests.{eqb-true, eqb-false, eq-eqb, ne-eqb, lt-ltb, le-ltb}
-use Rattle.rules.specs.Masks.{bit, has, rank, select, insert, image, maskOf, allNodes, foldedTo, folded, remappedTo, remapped}
+use Rattle.rules.specs.Masks.{bit, has, below, rank, select, insert, image, maskOf, allNodes, foldedTo, folded, remappedTo, remapped}
 
 -- ---- bits
 
@@ -338,12 +338,16 @@ image-skip u f b e o x = x ∙ o ∙ sym (ap (image u f) (add-one b) ∙ image-o
 pub mod-size : (w m r : ℕ) → 0 < m → m < 2 ^ w → r % rank m w < rank m w
 mod-size w m r p h = mod-lt r (size-pos w m p h)
 
+-- the node of a rank mod the size is a node of the mask
+pub select-mod : (w m r : ℕ) → 0 < m → m < 2 ^ w → IsNode m w (r % rank m w) (select w m (r % rank m w))
+select-mod w m r p h = select-is w m (r % rank m w) (mod-size w m r p h)
+
 -- ---- what the folded and the remapped mask hold
 
 module _ (w u : ℕ) (f : ℕ → ℕ) (r : ℕ → ℕ) (m : ℕ) (p : 0 < m) (h : m < 2 ^ w) (g : (b : ℕ) → f b ≡ select w m (r b % rank m w)) where
   -- each f b is a node of m
   to-member : (b : ℕ) → IsNode m w (r b % rank m w) (f b)
-  to-member b = subst (IsNode m w (r b % rank m w)) (sym (g b)) (select-is w m (r b % rank m w) (mod-size w m (r b) p h))
+  to-member b = subst (IsNode m w (r b % rank m w)) (sym (g b)) (select-mod w m (r b) p h)
 
   pub onto-lt : image u f w < 2 ^ w
   onto-lt = image-lt w u f w (λ b l e. to-member b .small)
@@ -464,3 +468,73 @@ module _ (w u m : ℕ) (p : 0 < m) (h : m < 2 ^ w) where
   pub remapped-pos : (old : ℕ) → 0 < u → u < 2 ^ w → 0 < remapped w u old m
   unfolding remapped
   remapped-pos old = onto-pos w u (remappedTo w old m) (rank old) m p h (λ b. refl)
+
+-- ---- no bit at n or above
+
+-- the test `m >> n == 0`
+pub shifted-out : (m n : ℕ) → eqb (m / 2 ^ n) 0 ≡ below n m
+shifted-out m n = go (decLt m (2 ^ n))
+  where
+    go : Dec (m < 2 ^ n) → eqb (m / 2 ^ n) 0 ≡ ltb m (2 ^ n)
+    go (yes l) = eq-eqb (m / 2 ^ n) 0 (div-eq-of-lt l) ∙ sym (lt-ltb m (2 ^ n) l)
+    go (no q) =
+        ne-eqb (m / 2 ^ n) 0 (λ e. q (omega (arith, div-lt-iff-lt-mul {x = m} {y = 1} (pow-pos n) .0 (omega arith))))
+        ∙ sym (le-ltb m (2 ^ n) (le-of-suc-le-suc (lt-of-not-le q)))
+
+-- a mask of w bits has none at n or above, for each n from w on
+pub below-wide : (w m n : ℕ) → m < 2 ^ w → w ≤ n → below n m ≡ true
+below-wide w m n h l = lt-ltb m (2 ^ n) (lt-of-lt-of-le h (pow-mono l))
+
+-- ---- the mask of a test
+
+-- one bit more, put on top
+top-lt : (w r : ℕ) (b : Bool) → r < 2 ^ w → r + cond b (2 ^ w) 0 < 2 ^ suc w
+top-lt w r true h = omega (arith, pow-suc 2 w)
+top-lt w r false h = omega (arith, pow-suc 2 w)
+
+-- the mask of a test on the nodes below w has no bit at w or above
+pub maskOf-lt : (w : ℕ) (p : ℕ → Bool) → maskOf w p < 2 ^ w
+unfolding maskOf
+maskOf-lt zero p = pow-pos 0
+maskOf-lt (suc w) p = top-lt w (maskOf w p) (p w) (maskOf-lt w p)
+
+-- a bit put on top of a mask of w bits is the mask with node w
+top-insert : (w r : ℕ) → r < 2 ^ w → r + 2 ^ w ≡ insert r w
+top-insert w r h = ap (λ (x : ℕ). r + x) (sym (one-mul (2 ^ w)) ∙ ap (λ (x : ℕ). (1 - x) * 2 ^ w) (sym (bit-above w r w h (le-refl w))))
+
+has-top : (w r : ℕ) (b : Bool) → r < 2 ^ w → has (r + cond b (2 ^ w) 0) w ≡ b
+has-top w r true h =
+    ap (λ (x : ℕ). has x w) (top-insert w r h)
+    ∙ eq-eqb (bit (insert r w) w) 1 (bit-insert r w w ∙ omega (arith, bit-one w, bit-lt r w))
+has-top w r false h =
+    ap (λ (x : ℕ). has x w) (add-zero r) ∙ ne-eqb (bit r w) 1 (λ e. omega (arith, bit-above w r w h (le-refl w)))
+
+has-under : (w n r : ℕ) (b : Bool) → r < 2 ^ w → n < w → has (r + cond b (2 ^ w) 0) n ≡ has r n
+has-under w n r true h l =
+    let e : bit (insert r w) n ≡ bit r n = bit-insert r w n ∙ omega (arith, bit-other w n (λ q. lt-irrefl n (omega arith))) in
+    ap (λ (x : ℕ). has x n) (top-insert w r h) ∙ ap (λ (x : ℕ). eqb x 1) e
+has-under w n r false h l = ap (λ (x : ℕ). has x n) (add-zero r)
+
+-- the mask of a test has exactly the nodes that pass it
+pub has-maskOf : (w : ℕ) (p : ℕ → Bool) (n : ℕ) → n < w → has (maskOf w p) n ≡ p n
+unfolding maskOf
+has-maskOf zero p n h = absurd (not-suc-le-zero h)
+has-maskOf (suc w) p n h =
+    ⊎-elim
+    (λ e. ap (has (maskOf w p + cond (p w) (2 ^ w) 0)) e ∙ has-top w (maskOf w p) (p w) (maskOf-lt w p) ∙ ap p (sym e))
+    (λ l. has-under w n (maskOf w p) (p w) (maskOf-lt w p) l ∙ has-maskOf w p n l)
+    (eq-or-lt-of-le (le-of-suc-le-suc h))
+
+-- masks that agree on node n have the same bit there
+pub same-bit : (a b n : ℕ) → has a n ≡ has b n → bit a n ≡ bit b n
+same-bit a b n e = go (bit-cases a n) (bit-cases b n)
+  where
+    go : (bit a n ≡ 0) ⊎ (bit a n ≡ 1) → (bit b n ≡ 0) ⊎ (bit b n ≡ 1) → bit a n ≡ bit b n
+    go (inl x) (inl y) = omega arith
+    go (inr x) (inr y) = omega arith
+    go (inl x) (inr y) = absurd (omega (arith, eqb-true (bit a n) 1 (e ∙ eq-eqb (bit b n) 1 y)))
+    go (inr x) (inl y) = absurd (omega (arith, eqb-true (bit b n) 1 (sym e ∙ eq-eqb (bit a n) 1 x)))
+
+-- a mask of w bits whose nodes are those that pass a test is the mask of the test
+pub maskOf-is : (w m : ℕ) (p : ℕ → Bool) → m < 2 ^ w → ((n : ℕ) → n < w → has m n ≡ p n) → m ≡ maskOf w p
+maskOf-is w m p h q = ext w m (maskOf w p) h (maskOf-lt w p) (λ n l. same-bit m (maskOf w p) n (q n l ∙ sym (has-maskOf w p n l)))

@@ -31,6 +31,16 @@ module _ {A : Type 0} where
   firstOr [] d = d
   firstOr (x ∷ xs) d = x
 
+  -- how many of a list pass the test
+  unfoldable pub count : (A → Bool) → List A → ℕ
+  count p [] = 0
+  count p (x ∷ xs) = cond (p x) 1 0 + count p xs
+
+  -- the statement holds of each one of a list
+  unfoldable pub Each : (A → Type 0) → List A → Type 0
+  Each P [] = Unit {0}
+  Each P (x ∷ xs) = P x × Each P xs
+
   unfoldable pub isEmpty : List A → Bool
   isEmpty [] = true
   isEmpty (x ∷ xs) = false
@@ -72,5 +82,5 @@ same (x ∷ xs) (y ∷ ys) = eqb x y && same xs ys
 
 -- for a proof that computes: `unfolding openBasics` opens every definition of this file
 unfoldable pub openBasics : Unit {0}
-unfolding all any keep first firstOr isEmpty each from around sum allAt same
+unfolding all any keep first firstOr count isEmpty each from around sum allAt same
 openBasics = tt

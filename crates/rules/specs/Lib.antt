@@ -5,6 +5,7 @@ pub mod Records
 pub mod SearchOrder
 pub mod Calls
 pub mod Book
+pub mod Ledger
 pub mod Text
 pub mod Journal
 pub mod Replies

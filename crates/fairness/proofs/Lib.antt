@@ -1,0 +1,4 @@
+pub mod Turns
+pub mod Search
+pub mod Kept
+pub mod Fair

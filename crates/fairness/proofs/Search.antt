@@ -1,0 +1,168 @@
+-- What a grant says of the search: in ring mode the place is the first open one, in interleave mode the target is the next effective node.
+-- Assumes nothing.
+use Prim.Native.Nat.{ℕ, zero, suc, _+_, _-_, _*_, _/_, _%_, _^_, _≤_, _<_, zero-le}
+use mathlib.Core.Path.{_≡_, refl, sym, ap, _∙_}
+use mathlib.Core.Bool.{Bool, true, false, not, _&&_, cond, false≢true}
+use mathlib.Core.Option.{Option, none, some}
+use mathlib.Core.List.{List, [], _∷_, map}
+use native.Mathlib.Nat.{add-zero, add-suc, suc-add, zero-lt-suc}
+use native.Mathlib.Omega.{arith}
+use borrow.Author.Tests.{eqb-true, eqb-false, eq-eqb, ne-eqb, ltb-true, leb-true}
+use lib.ListN.{length}
+use lib.Dec.{eqb, ltb}
+use Rattle.rules.specs.Basics.{keep, first, around, between}
+use Rattle.rules.specs.Machine.{Machine, nodeCount, nodeOfCpu}
+use Rattle.rules.specs.Masks.{maskBits, bit, has, isNone}
+use Rattle.rules.specs.Records.{Job, Mode, default, interleave, ring, modeOf, carries, dataFits, noMasks, wellFormed, placesPerJob, jobAt}
+use Rattle.rules.specs.SearchOrder.{Try, try, near, tried, nodeAt, ringTries, target, interleaved, orderIn, modeInForce, order, hasRoom, chosen}
+use Rattle.rules.specs.Calls.{Tables, limitOf, orderOf}
+use Rattle.rules.proofs.Lists.{both-true}
+use Rattle.rules.proofs.Masks.{bit-above}
+use Rattle.rules.proofs.Near.{near-order}
+use Rattle.rules.proofs.WellFormed.{Formed, formed}
+use Rattle.fairness.specs.Demand3.{jobIn, isOpen, placeOpen}
+
+-- ---- the first that passes
+
+-- p is the first position that passes, of k positions from c on, walking round n
+pub record Passing (ok : ℕ → Bool) (n c k p : ℕ) : Type 0 where
+  pub past : ℕ
+  pub short : past < k
+  pub here : p ≡ (c + past) % n
+  pub passes : ok p ≡ true
+  pub failed : (e : ℕ) → e < past → ok ((c + e) % n) ≡ false
+
+pub first-around : (ok : ℕ → Bool) (n c k p : ℕ) → first (keep ok (around n c k)) ≡ some p → Passing ok n c k p
+unfolding first keep around
+first-around ok n c zero p e = absurd (let z : _≡_ {A = ℕ} 0 1 = cc in omega arith)
+first-around ok n c (suc k) p e = go (ok (c % n)) refl e (first-around ok n (suc c) k p)
+  where
+    later : (g : Passing ok n (suc c) k p) → ok (c % n) ≡ false → (e : ℕ) → e < suc (g .past) → ok ((c + e) % n) ≡ false
+    later g q zero l = rw add-zero q
+    later g q (suc e) l = rw (add-suc, ← suc-add) (g .failed e (omega arith))
+
+    go : (b : Bool) → ok (c % n) ≡ b → first (cond b (c % n ∷ keep ok (around n (suc c) k)) (keep ok (around n (suc c) k))) ≡ some p
+        → (first (keep ok (around n (suc c) k)) ≡ some p → Passing ok n (suc c) k p) → Passing ok n c (suc k) p
+    go true q e ih =
+        let r : p ≡ c % n = cc in
+        record { past = 0; short = omega arith; here = rw add-zero r; passes = ap ok r ∙ q; failed = λ e l. absurd (omega arith) }
+    go false q e ih =
+        let g = ih e in
+        record {
+          past = suc (g .past);
+          short = omega (arith, g .short);
+          here = rw (add-suc, ← suc-add) (g .here);
+          passes = g .passes;
+          failed = later g q;
+        }
+
+-- the first of f p, for p of a list, that passes two tests one after the other
+first-mapped : {A B : Type 0} (f : A → B) (r q : B → Bool) (ps : List A) (s : B) → first (keep q (keep r (map f ps))) ≡ some s
+    → (p : A) × (first (keep (λ p. r (f p) && q (f p)) ps) ≡ some p) × (s ≡ f p)
+unfolding first keep
+first-mapped f r q [] s e = absurd (let z : _≡_ {A = ℕ} 0 1 = cc in omega arith)
+first-mapped {A} {B} f r q (x ∷ xs) s e = go (r (f x)) (q (f x)) refl e (first-mapped f r q xs s)
+  where
+    rest : List A
+    rest = keep (λ p. r (f p) && q (f p)) xs
+
+    kept : List B
+    kept = keep q (keep r (map f xs))
+
+    go : (a b : Bool) → q (f x) ≡ b → first (keep q (cond a (f x ∷ keep r (map f xs)) (keep r (map f xs)))) ≡ some s
+        → (first kept ≡ some s → (p : A) × (first rest ≡ some p) × (s ≡ f p))
+        → (p : A) × (first (cond (a && b) (x ∷ rest) rest) ≡ some p) × (s ≡ f p)
+    go true true t e ih = (x, refl, cc (rw t at e))
+    go true false t e ih = ih (rw t at e)
+    go false b t e ih = ih e
+
+-- ---- ring
+
+flag-none : (n : ℕ) (j : Job) → wellFormed n j ≡ true → j .mode ≡ 5 → j .flag ≡ 0
+unfolding dataFits carries noMasks
+flag-none n j w five =
+    let d = rw five at (formed n j w .data-fits) in
+    let a = both-true {a = noMasks j} {b = between 1 placesPerJob (j .len)} d .0 in
+    let b = both-true {a = eqb (j .flag) 0 && isNone (j .user)} {b = isNone (j .effective)} a .0 in
+    eqb-true (j .flag) 0 (both-true {a = eqb (j .flag) 0} {b = isNone (j .user)} b .0)
+
+in-ring : (n : ℕ) (j : Job) → wellFormed n j ≡ true → j .mode ≡ 5 → modeInForce j ≡ ring
+unfolding modeInForce
+in-ring n j w five = rw (flag-none n j w five, five)
+
+-- A grant to a ring job: the place granted is the first that is open, and the cursor field becomes one more.
+pub record RingGrant (m : Machine) (t : Tables) (j : ℕ) (s : Try) : Type 0 where
+  pub place : ℕ
+  pub by-turn : first (keep (placeOpen m t j) (around (jobIn t j .len) (jobIn t j .cursor) (jobIn t j .len))) ≡ some place
+  pub moves : s .cursor ≡ suc place
+  pub serves : s .node ≡ nodeAt (jobIn t j) place
+
+pub ring-grant : (m : Machine) (t : Tables) (j k : ℕ) (s : Try) → wellFormed (nodeCount m) (jobIn t j) ≡ true → jobIn t j .mode ≡ 5
+    → chosen m (t .ledger) (orderOf m t j k) ≡ some s → RingGrant m t j s
+unfolding chosen orderOf order orderIn tried ringTries placeOpen isOpen
+ring-grant m t j k s w five e =
+    let J = jobIn t j in
+    let r =
+    first-mapped (λ (p : ℕ). try (suc p) (nodeAt J p)) (λ u. ltb (u .node) (nodeCount m) && has (limitOf t j) (u .node)) (λ u. hasRoom m (t .ledger) (u .node))
+    (around (J .len) (J .cursor) (J .len)) s (rw (in-ring (nodeCount m) J w five) at e) in
+    record { place = r .0; by-turn = r .1; moves = ap (λ (u : Try). u .cursor) (r .2); serves = ap (λ (u : Try). u .node) (r .2) }
+
+-- ---- interleave
+
+and-false : (b : Bool) → (b && false) ≡ false
+and-false true = refl
+and-false false = refl
+
+not-empty : (e q : ℕ) → has e q ≡ true → isNone e ≡ false
+not-empty e q h =
+    ne-eqb e 0 (λ z. let x : bit 0 q ≡ 1 = eqb-true (bit 0 q) 1 (rw z at h) in omega (arith, bit-above 0 0 q (zero-lt-suc 0) zero-le))
+
+in-interleave : (j : Job) (q : ℕ) → j .mode ≡ 3 → has (j .effective) q ≡ true → modeInForce j ≡ interleave
+unfolding modeInForce
+in-interleave j q three h = rw (not-empty (j .effective) q h, and-false (eqb (j .flag) 1), three)
+
+-- A grant to an interleave job: the target is the next effective node, the cursor field becomes one more, and the target serves if it is open.
+pub record InterleaveGrant (m : Machine) (t : Tables) (j : ℕ) (s : Try) : Type 0 where
+  pub goal : ℕ
+  pub by-turn : first (keep (has (jobIn t j .effective)) (around maskBits (jobIn t j .cursor) maskBits)) ≡ some goal
+  pub moves : s .cursor ≡ suc goal
+  pub serves : isOpen m t j goal ≡ true → s .node ≡ goal
+
+chosen-cursor : (room : Try → Bool) (c : ℕ) (ns : List ℕ) (s : Try) → first (keep room (map (try c) ns)) ≡ some s → s .cursor ≡ c
+unfolding first keep
+chosen-cursor room c [] s e = absurd (let z : _≡_ {A = ℕ} 0 1 = cc in omega arith)
+chosen-cursor room c (n ∷ ns) s e = go (room (try c n)) e (chosen-cursor room c ns s)
+  where
+    go : (b : Bool) → first (cond b (try c n ∷ keep room (map (try c) ns)) (keep room (map (try c) ns))) ≡ some s
+        → (first (keep room (map (try c) ns)) ≡ some s → s .cursor ≡ c) → s .cursor ≡ c
+    go true e ih = let q : try c n ≡ s = cc in ap (λ (u : Try). u .cursor) (sym q)
+    go false e ih = ih e
+
+pub interleave-grant : (m : Machine) (t : Tables) (j k q : ℕ) (s : Try) → jobIn t j .mode ≡ 3 → has (jobIn t j .effective) q ≡ true
+    → chosen m (t .ledger) (orderOf m t j k) ≡ some s → InterleaveGrant m t j s
+unfolding chosen orderOf order orderIn isOpen interleaved target first keep
+interleave-grant m t j k q s three h e = go (target (jobIn t j)) refl (rw (in-interleave (jobIn t j) q three h) at e)
+  where
+    limit : ℕ
+    limit = limitOf t j
+
+    room : Try → Bool
+    room u = hasRoom m (t .ledger) (u .node)
+
+    at-head : (x : ℕ) (ns : List ℕ) → near m limit x ≡ x ∷ ns → hasRoom m (t .ledger) x ≡ true
+        → first (keep room (map (try (suc x)) (near m limit x))) ≡ some s → s .node ≡ x
+    at-head x ns n r e =
+        let z : some (try (suc x) x) ≡ some s = rw (n, r) at e in
+        let y : try (suc x) x ≡ s = cc in
+        ap (λ (u : Try). u .node) (sym y)
+
+    open-serves : (x : ℕ) → first (keep room (map (try (suc x)) (near m limit x))) ≡ some s → isOpen m t j x ≡ true → s .node ≡ x
+    open-serves x e o =
+        let a = both-true {a = ltb x (nodeCount m) && has limit x} {b = hasRoom m (t .ledger) x} o in
+        let l = both-true {a = ltb x (nodeCount m)} {b = has limit x} (a .0) .1 in
+        at-head x (near-order m limit x .rest) (near-order m limit x .x-first l) (a .1) e
+
+    go : (o : Option ℕ) → target (jobIn t j) ≡ o → first (keep room (interleaved m limit o)) ≡ some s → InterleaveGrant m t j s
+    go none q e = absurd (let z : _≡_ {A = ℕ} 0 1 = cc in omega arith)
+    go (some x) q e =
+        record { goal = x; by-turn = q; moves = chosen-cursor room (suc x) (near m limit x) s e; serves = open-serves x e }

@@ -1,0 +1,120 @@
+-- Demand 3: fair turns, over every list of calls of every job.
+-- Assumes nothing.
+use Prim.Native.Nat.{ℕ, zero, suc, _*_, _≤_, _<_}
+use mathlib.Core.Path.{_≡_}
+use mathlib.Core.Bool.{Bool, true, false, _&&_, cond}
+use mathlib.Core.Option.{Option, none, some}
+use mathlib.Core.List.{List, [], _∷_, _++_}
+use lib.ListN.{length, take, drop}
+use lib.Dec.{eqb, ltb}
+use Rattle.rules.specs.Basics.{keep, first, around, count, Each}
+use Rattle.rules.specs.Machine.{Machine, nodeCount, nodeOfPage}
+use Rattle.rules.specs.Masks.{maskBits, has, size}
+use Rattle.rules.specs.Records.{Job, jobAt}
+use Rattle.rules.specs.SearchOrder.{nodeAt, hasRoom}
+use Rattle.rules.specs.Calls.{Answer, granted, released, done, refused, Tables, limitOf}
+use Rattle.rules.specs.Book.{Call, request, release, install, rebind, clear, step}
+
+-- the record of job j in some tables
+abbrev pub jobIn : Tables → ℕ → Job
+jobIn t j = jobAt (t .records) j
+
+-- A granted request: the tables before it, and the page that it got.
+pub record Grant : Type 0 where
+  pub before : Tables
+  pub page : ℕ
+
+unfoldable pub grantBy : Tables → Answer → List Grant
+grantBy t (granted n p) = record { before = t; page = p } ∷ []
+grantBy t (released n p) = []
+grantBy t done = []
+grantBy t (refused r) = []
+
+-- "granted requests of that job": the one in a call, if it is one
+unfoldable pub grantIn : Machine → ℕ → Tables → Call → List Grant
+grantIn m j t (request i k) = cond (eqb i j) (grantBy t (step m t (request i k) .answer)) []
+grantIn m j t (release i p) = []
+grantIn m j t (install i mode flag user places) = []
+grantIn m j t (rebind i allowed) = []
+grantIn m j t (clear i) = []
+
+-- "whatever other jobs do between them": those in a list of calls, in their order
+unfoldable pub grants : Machine → ℕ → Tables → List Call → List Grant
+grants m j t [] = []
+grants m j t (c ∷ cs) = grantIn m j t c ++ grants m j (step m t c .tables) cs
+
+-- "A call to set its policy or limits, even to what they were, is in the list only if refused"
+unfoldable pub setsPolicy : ℕ → Call → Bool
+setsPolicy j (request i k) = false
+setsPolicy j (release i p) = false
+setsPolicy j (install i mode flag user places) = eqb i j
+setsPolicy j (rebind i allowed) = eqb i j
+setsPolicy j (clear i) = eqb i j
+
+unfoldable pub isRefused : Answer → Bool
+isRefused (granted n p) = false
+isRefused (released n p) = false
+isRefused done = false
+isRefused (refused r) = true
+
+unfoldable pub PolicyKept : Machine → ℕ → Tables → List Call → Type 0
+PolicyKept m j t [] = Unit {0}
+PolicyKept m j t (c ∷ cs) = (setsPolicy j c ≡ true → isRefused (step m t c .answer) ≡ true) × PolicyKept m j (step m t c .tables) cs
+
+-- "allowed and has a free page": node n, for job j; "a byte of N or more is not allowed"
+unfoldable pub isOpen : Machine → Tables → ℕ → ℕ → Bool
+isOpen m t j n = ltb n (nodeCount m) && has (limitOf t j) n && hasRoom m (t .ledger) n
+
+-- "A place goes by the node it names"
+unfoldable pub placeOpen : Machine → Tables → ℕ → ℕ → Bool
+placeOpen m t j p = isOpen m t j (nodeAt (jobIn t j) p)
+
+-- "Ring: the place granted is the first that is allowed and has a free page", from one past the last, once round
+unfoldable pub placeGranted : Machine → ℕ → Grant → Option ℕ
+placeGranted m j g =
+    first (keep (placeOpen m (g .before) j) (around (jobIn (g .before) j .len) (jobIn (g .before) j .cursor) (jobIn (g .before) j .len)))
+
+-- "Interleave: the node granted is the page's"
+unfoldable pub nodeGranted : Machine → Grant → ℕ
+nodeGranted m g = nodeOfPage (m .pageCounts) (g .page)
+
+abbrev pub isPlace : ℕ → Option ℕ → Bool
+isPlace p none = false
+isPlace p (some q) = eqb q p
+
+-- how often some grants were at place p, and at node n
+abbrev pub timesPlace : Machine → ℕ → ℕ → List Grant → ℕ
+timesPlace m j p gs = count (λ g. isPlace p (placeGranted m j g)) gs
+
+abbrev pub timesNode : Machine → ℕ → List Grant → ℕ
+timesNode m n gs = count (λ g. eqb (nodeGranted m g) n) gs
+
+-- "any k times L granted requests of that job in a row": n of them, after the first s
+abbrev pub row : Machine → ℕ → Tables → List Call → ℕ → ℕ → List Grant
+row m j t cs s n = take n (drop s (grants m j t cs))
+
+-- For k times L granted requests gs in a row, of a job j that starts "in ring mode with L list places": "Any of those places .. that is
+-- allowed and has a free page before each of these requests is granted at least k times in them. If every one is allowed and has a free
+-- page before each, each is granted exactly k times."
+pub record FairPlaces (m : Machine) (j L k : ℕ) (gs : List Grant) : Type 0 where
+  pub at-least : (p : ℕ) → p < L → Each (λ g. placeOpen m (g .before) j p ≡ true) gs → k ≤ timesPlace m j p gs
+  pub exactly : Each (λ g. (q : ℕ) → q < L → placeOpen m (g .before) j q ≡ true) gs → (p : ℕ) → p < L → timesPlace m j p gs ≡ k
+
+-- and of one that starts "in interleave mode over L effective nodes", the nodes of the mask e
+pub record FairNodes (m : Machine) (j e k : ℕ) (gs : List Grant) : Type 0 where
+  pub at-least : (n : ℕ) → n < maskBits → has e n ≡ true → Each (λ g. isOpen m (g .before) j n ≡ true) gs → k ≤ timesNode m n gs
+  pub exactly : Each (λ g. (q : ℕ) → q < maskBits → has e q ≡ true → isOpen m (g .before) j q ≡ true) gs
+      → (n : ℕ) → n < maskBits → has e n ≡ true → timesNode m n gs ≡ k
+
+-- "Take every list of these calls .. It starts from any page table and job table": the one claim, for every job
+pub record Fair (m : Machine) (t : Tables) (cs : List Call) (j : ℕ) : Type 0 where
+  pub ring : jobIn t j .mode ≡ 5 → (k s : ℕ) → let L : ℕ = jobIn t j .len in
+      length (row m j t cs s (k * L)) ≡ k * L → FairPlaces m j L k (row m j t cs s (k * L))
+  pub interleave : jobIn t j .mode ≡ 3 → (k s : ℕ) → let L : ℕ = size maskBits (jobIn t j .effective) in
+      length (row m j t cs s (k * L)) ≡ k * L → FairNodes m j (jobIn t j .effective) k (row m j t cs s (k * L))
+  -- "The page answered in ring mode lies in the node of the place granted"
+  pub ring-page : jobIn t j .mode ≡ 5
+      → Each (λ g. (p : ℕ) × (placeGranted m j g ≡ some p) × (nodeGranted m g ≡ nodeAt (jobIn (g .before) j) p)) (grants m j t cs)
+
+abbrev pub Demand3 : Machine → Tables → List Call → Type 0
+Demand3 m t cs = (j : ℕ) → PolicyKept m j t cs → Fair m t cs j

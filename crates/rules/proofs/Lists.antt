@@ -1,0 +1,260 @@
+-- Laws of the words about lists and tests (specs/Basics), over any element type.
+-- Assumes nothing.
+use Prim.Native.Nat.{ℕ, zero, suc, _+_, _%_, _≤_, _<_}
+use mathlib.Core.Path.{_≡_, refl, sym, ap, subst, _∙_}
+use mathlib.Core.Logic.{_↔_, ⊎-elim}
+use mathlib.Core.Bool.{Bool, true, false, not, _&&_, _||_, cond, true≢false, false≢true}
+use mathlib.Core.Option.{none, some}
+use mathlib.Core.List.{List, [], _∷_, _++_, map, List·Memᴰ, List·Memᴰ·head, List·Memᴰ·tail, List·Memᴰ·not-nil, List·Memᴰ·cases-cons, List·Memᴰ·append-cases, Memᴰ·append-left, Memᴰ·append-right, Memᴰ·cast}
+use native.Mathlib.Nat.{add-zero, eq-or-lt-of-le}
+use native.Mathlib.Omega.{arith}
+use lib.ListN.{getD, take, drop, take-append-drop}
+use Rattle.rules.specs.Basics.{all, any, keep, first, firstOr, isEmpty, each, from, around, sum}
+
+-- ---- tests
+
+-- two tests that hold together
+pub both-true : {a b : Bool} → (a && b) ≡ true → (a ≡ true) × (b ≡ true)
+both-true {a = true} {b = b} h = (refl, h)
+both-true {a = false} {b = b} h = absurd (false≢true h)
+
+pub both-hold : {a b : Bool} → a ≡ true → b ≡ true → (a && b) ≡ true
+both-hold p q = rw (p, q)
+
+-- of two tests neither holds
+pub either-false : {a b : Bool} → (a || b) ≡ false → (a ≡ false) × (b ≡ false)
+either-false {a = true} {b = b} h = absurd (true≢false h)
+either-false {a = false} {b = b} h = (refl, h)
+
+-- a test that does not hold fails
+pub fails : {a : Bool} → (a ≡ true → ⊥) → a ≡ false
+fails {a = true} h = absurd (h refl)
+fails {a = false} h = refl
+
+-- ---- members
+
+infix 40 _∈_
+-- x is one of the list
+abbrev pub _∈_ : {A : Type 0} → A → List A → Type 0
+x ∈ xs = List·Memᴰ x xs
+
+module _ {A : Type 0} where
+  -- one that is kept is of the list and passes the test
+  pub keep-member : (p : A → Bool) (xs : List A) {x : A} → x ∈ keep p xs → (x ∈ xs) × (p x ≡ true)
+  unfolding keep
+  keep-member p [] h = absurd (List·Memᴰ·not-nil h)
+  keep-member p (y ∷ ys) {x = x} h = go (p y) refl h (λ m. keep-member p ys m)
+    where
+      go : (b : Bool) → p y ≡ b → x ∈ cond b (y ∷ keep p ys) (keep p ys)
+          → (x ∈ keep p ys → (x ∈ ys) × (p x ≡ true)) → (x ∈ (y ∷ ys)) × (p x ≡ true)
+      go true e h ih =
+          ⊎-elim (λ q. (List·Memᴰ·head q, ap p q ∙ e)) (λ m. let r = ih m in (List·Memᴰ·tail (r .0), r .1)) (List·Memᴰ·cases-cons h)
+      go false e h ih = let r = ih h in (List·Memᴰ·tail (r .0), r .1)
+
+  -- one of the list that passes the test is kept
+  pub member-keep : (p : A → Bool) {xs : List A} {x : A} → x ∈ xs → p x ≡ true → x ∈ keep p xs
+  unfolding keep
+  member-keep p {xs = y ∷ ys} (List·Memᴰ·head q) t = rw (ap p (sym q) ∙ t) (List·Memᴰ·head q)
+  member-keep p {xs = y ∷ ys} {x = x} (List·Memᴰ·tail m) t = go (p y) (member-keep p m t)
+    where
+      go : (b : Bool) → x ∈ keep p ys → x ∈ cond b (y ∷ keep p ys) (keep p ys)
+      go true h = List·Memᴰ·tail h
+      go false h = h
+
+  -- to keep of two lists end to end is to keep of each
+  pub keep-append : (p : A → Bool) (xs ys : List A) → keep p (xs ++ ys) ≡ keep p xs ++ keep p ys
+  unfolding keep
+  keep-append p [] ys = refl
+  keep-append p (x ∷ xs) ys = go (p x) (keep-append p xs ys)
+    where
+      go : (b : Bool) → keep p (xs ++ ys) ≡ keep p xs ++ keep p ys
+          → cond b (x ∷ keep p (xs ++ ys)) (keep p (xs ++ ys)) ≡ cond b (x ∷ keep p xs) (keep p xs) ++ keep p ys
+      go true e = ap (λ (l : List A). x ∷ l) e
+      go false e = e
+
+  -- ---- some, every one, the first that passes
+
+  -- some one passes: there is one of the list that does
+  pub any-true : (p : A → Bool) (xs : List A) → any p xs ≡ true → (x : A) × (x ∈ xs) × (p x ≡ true)
+  unfolding any
+  any-true p [] h = absurd (false≢true h)
+  any-true p (y ∷ ys) h = go (p y) refl h (any-true p ys)
+    where
+      go : (b : Bool) → p y ≡ b → (b || any p ys) ≡ true → (any p ys ≡ true → (x : A) × (x ∈ ys) × (p x ≡ true))
+          → (x : A) × (x ∈ (y ∷ ys)) × (p x ≡ true)
+      go true e h ih = (y, List·Memᴰ·head refl, e)
+      go false e h ih = let r = ih h in (r .0, List·Memᴰ·tail (r .1), r .2)
+
+  -- none passes: each one of the list fails
+  pub any-false : (p : A → Bool) {xs : List A} {x : A} → any p xs ≡ false → x ∈ xs → p x ≡ false
+  unfolding any
+  any-false p {xs = y ∷ ys} h (List·Memᴰ·head q) = ap p q ∙ either-false h .0
+  any-false p {xs = y ∷ ys} h (List·Memᴰ·tail m) = any-false p (either-false {a = p y} h .1) m
+
+  -- each one of the list fails: none passes
+  pub none-any : (p : A → Bool) (xs : List A) → ((x : A) → x ∈ xs → p x ≡ false) → any p xs ≡ false
+  unfolding any
+  none-any p [] h = refl
+  none-any p (y ∷ ys) h = rw (h y (List·Memᴰ·head refl)) (none-any p ys (λ x m. h x (List·Memᴰ·tail m)))
+
+  -- every one passes: each one of the list does
+  pub all-true : (p : A → Bool) {xs : List A} {x : A} → all p xs ≡ true → x ∈ xs → p x ≡ true
+  unfolding all
+  all-true p {xs = y ∷ ys} h (List·Memᴰ·head q) = ap p q ∙ both-true h .0
+  all-true p {xs = y ∷ ys} h (List·Memᴰ·tail m) = all-true p (both-true {a = p y} h .1) m
+
+  -- where every one passes, every one is kept
+  pub all-keep : (p : A → Bool) (xs : List A) → all p xs ≡ true → keep p xs ≡ xs
+  unfolding all keep
+  all-keep p [] h = refl
+  all-keep p (y ∷ ys) h = let b = both-true {a = p y} h in rw (b .0) (ap (λ (l : List A). y ∷ l) (all-keep p ys (b .1)))
+
+  -- nothing is kept exactly when none passes
+  pub empty-keep : (p : A → Bool) (xs : List A) → isEmpty (keep p xs) ≡ not (any p xs)
+  unfolding keep any isEmpty
+  empty-keep p [] = refl
+  empty-keep p (y ∷ ys) = go (p y) (empty-keep p ys)
+    where
+      go : (b : Bool) → isEmpty (keep p ys) ≡ not (any p ys) → isEmpty (cond b (y ∷ keep p ys) (keep p ys)) ≡ not (b || any p ys)
+      go true e = refl
+      go false e = e
+
+  -- x is the first of the list that passes: it is of the list, it passes, and all before it fail
+  pub record FirstOf (p : A → Bool) (xs : List A) (x : A) : Type 0 where
+    pub before : List A
+    pub after : List A
+    pub split : xs ≡ before ++ x ∷ after
+    pub passes : p x ≡ true
+    pub failed : (y : A) → y ∈ before → p y ≡ false
+
+  pub first-keep : (p : A → Bool) (xs : List A) {x : A} → first (keep p xs) ≡ some x → FirstOf p xs x
+  unfolding first keep
+  first-keep p [] h = absurd (let z : _≡_ {A = ℕ} 0 1 = cc in omega arith)
+  first-keep p (y ∷ ys) {x = x} h = go (p y) refl h (λ e. first-keep p ys e)
+    where
+      go : (b : Bool) → p y ≡ b → first (cond b (y ∷ keep p ys) (keep p ys)) ≡ some x → (first (keep p ys) ≡ some x → FirstOf p ys x)
+          → FirstOf p (y ∷ ys) x
+      go true e h ih =
+          let q : y ≡ x = cc in
+          record { before = []; after = ys; split = ap (λ (z : A). z ∷ ys) q; passes = ap p (sym q) ∙ e; failed = λ z m. absurd (List·Memᴰ·not-nil m) }
+      go false e h ih =
+          let r = ih h in
+          record {
+            before = y ∷ r .before;
+            after = r .after;
+            split = ap (λ (l : List A). y ∷ l) (r .split);
+            passes = r .passes;
+            failed = λ z m. ⊎-elim (λ q. ap p q ∙ e) (λ n. r .failed z n) (List·Memᴰ·cases-cons m);
+          }
+
+  -- the first that passes is one of the list
+  pub first-member : {p : A → Bool} {xs : List A} {x : A} → FirstOf p xs x → x ∈ xs
+  first-member {x = x} f = subst (λ (l : List A). x ∈ l) (sym (f .split)) (Memᴰ·append-right (f .before) (List·Memᴰ·head refl))
+
+  -- there is no first that passes exactly when none passes
+  pub first-none : (p : A → Bool) (xs : List A) → (first (keep p xs) ≡ none) ↔ (any p xs ≡ false)
+  unfolding first keep any
+  first-none p [] = (λ e. refl, λ e. refl)
+  first-none p (y ∷ ys) = go (p y) (first-none p ys)
+    where
+      go : (b : Bool) → (first (keep p ys) ≡ none) ↔ (any p ys ≡ false)
+          → (first (cond b (y ∷ keep p ys) (keep p ys)) ≡ none) ↔ ((b || any p ys) ≡ false)
+      go true ih = (λ e. absurd (let z : _≡_ {A = ℕ} 0 1 = cc in omega arith), λ e. absurd (true≢false e))
+      go false ih = ih
+
+  -- the first, else d, of a list that has one is the first
+  pub firstOr-first : (xs : List A) (d : A) {x : A} → first xs ≡ some x → firstOr xs d ≡ x
+  unfolding first firstOr
+  firstOr-first [] d h = absurd (let z : _≡_ {A = ℕ} 0 1 = cc in omega arith)
+  firstOr-first (y ∷ ys) d h = cc
+
+  -- a list that is not empty has a first
+  pub first-some : (xs : List A) (d : A) → isEmpty xs ≡ false → first xs ≡ some (firstOr xs d)
+  unfolding first firstOr isEmpty
+  first-some [] d h = absurd (true≢false h)
+  first-some (y ∷ ys) d h = refl
+
+-- ---- members of the lists that are made
+
+module _ {A B : Type 0} where
+  -- one of the lists f x, end to end, is of f x for some x
+  pub each-member : (f : A → List B) (xs : List A) {y : B} → y ∈ each f xs → (x : A) × (x ∈ xs) × (y ∈ f x)
+  unfolding each
+  each-member f [] h = absurd (List·Memᴰ·not-nil h)
+  each-member f (x ∷ xs) h =
+      ⊎-elim
+      (λ m. (x, List·Memᴰ·head refl, m))
+      (λ m. let r = each-member f xs m in (r .0, List·Memᴰ·tail (r .1), r .2))
+      (List·Memᴰ·append-cases (f x) h)
+
+  -- one of f x, for an x of the list, is of the lists end to end
+  pub member-each : (f : A → List B) {xs : List A} {x : A} {y : B} → x ∈ xs → y ∈ f x → y ∈ each f xs
+  unfolding each
+  member-each f {xs = z ∷ zs} {y = y} (List·Memᴰ·head q) m = Memᴰ·append-left (each f zs) (subst (λ (x : A). y ∈ f x) q m)
+  member-each f {xs = z ∷ zs} (List·Memᴰ·tail n) m = Memᴰ·append-right (f z) (member-each f n m)
+
+  -- one of map f xs is f x for some x
+  pub map-member : (f : A → B) (xs : List A) {y : B} → y ∈ map f xs → (x : A) × (x ∈ xs) × (y ≡ f x)
+  map-member f [] h = absurd (List·Memᴰ·not-nil h)
+  map-member f (x ∷ xs) h =
+      ⊎-elim
+      (λ e. (x, List·Memᴰ·head refl, e))
+      (λ m. let r = map-member f xs m in (r .0, List·Memᴰ·tail (r .1), r .2))
+      (List·Memᴰ·cases-cons h)
+
+  -- f x, for an x of the list, is one of map f xs
+  pub member-map : (f : A → B) {xs : List A} {x : A} → x ∈ xs → f x ∈ map f xs
+  member-map f (List·Memᴰ·head q) = List·Memᴰ·head (ap f q)
+  member-map f (List·Memᴰ·tail m) = List·Memᴰ·tail (member-map f m)
+
+-- from a k has the numbers from a on below a + k
+pub from-member : (a k : ℕ) {n : ℕ} → n ∈ from a k → (a ≤ n) × (n < a + k)
+unfolding from
+from-member a zero h = absurd (List·Memᴰ·not-nil h)
+from-member a (suc k) h =
+    ⊎-elim (λ e. (omega arith, omega arith)) (λ m. let r = from-member (suc a) k m in (omega arith, omega arith)) (List·Memᴰ·cases-cons h)
+
+pub member-from : (a k n : ℕ) → a ≤ n → n < a + k → n ∈ from a k
+unfolding from
+member-from a zero n h l = absurd (omega arith)
+member-from a (suc k) n h l =
+    ⊎-elim (λ e. List·Memᴰ·head (sym e)) (λ m. List·Memᴰ·tail (member-from (suc a) k n m (omega arith))) (eq-or-lt-of-le h)
+
+-- around n c k has the positions of k numbers from c on
+pub around-member : (n c k : ℕ) {x : ℕ} → x ∈ around n c k → (i : ℕ) × (i < k) × (x ≡ (c + i) % n)
+unfolding around
+around-member n c zero h = absurd (List·Memᴰ·not-nil h)
+around-member n c (suc k) h =
+    ⊎-elim
+    (λ e. (0, omega arith, e ∙ ap (λ (y : ℕ). y % n) (sym (add-zero c))))
+    (λ m. let r = around-member n (suc c) k m in (suc (r .0), omega (arith, r .1), r .2 ∙ ap (λ (y : ℕ). y % n) (omega arith)))
+    (List·Memᴰ·cases-cons h)
+
+pub member-around : (n c k i : ℕ) → i < k → (c + i) % n ∈ around n c k
+unfolding around
+member-around n c zero i h = absurd (omega arith)
+member-around n c (suc k) zero h = List·Memᴰ·head (ap (λ (y : ℕ). y % n) (add-zero c))
+member-around n c (suc k) (suc i) h =
+    List·Memᴰ·tail (Memᴰ·cast (ap (λ (y : ℕ). y % n) (omega arith)) (member-around n (suc c) k i (omega arith)))
+
+-- ---- sums
+
+pub sum-append : (xs ys : List ℕ) → sum (xs ++ ys) ≡ sum xs + sum ys
+unfolding sum
+sum-append [] ys = omega arith
+sum-append (x ∷ xs) ys = omega (arith, sum-append xs ys)
+
+-- a sum is that of the first n and that of the rest
+pub sum-take-drop : (n : ℕ) (xs : List ℕ) → sum xs ≡ sum (take n xs) + sum (drop n xs)
+sum-take-drop n xs = ap sum (sym (take-append-drop n xs)) ∙ sum-append (take n xs) (drop n xs)
+
+pub sum-take-le : (n : ℕ) (xs : List ℕ) → sum (take n xs) ≤ sum xs
+sum-take-le n xs = omega (arith, sum-take-drop n xs)
+
+-- the sum of one more, also where there is none
+pub sum-take-suc : (n : ℕ) (xs : List ℕ) → sum (take (suc n) xs) ≡ sum (take n xs) + getD xs n 0
+unfolding sum
+sum-take-suc zero [] = refl
+sum-take-suc zero (x ∷ xs) = omega arith
+sum-take-suc (suc n) [] = refl
+sum-take-suc (suc n) (x ∷ xs) = omega (arith, sum-take-suc n xs)
