@@ -1,14 +1,14 @@
 -- Demand 3, proved: the grants of a ring or interleave job walk round its places or effective nodes, so each gets its turns.
 -- Assumes nothing.
-use Prim.Native.Nat.{ℕ, zero, suc, _+_, _*_, _/_, _%_, _^_, _≤_, _<_}
+use Prim.Native.Nat.{ℕ, zero, suc, _+_, _*_, _%_, _≤_, _<_}
 use mathlib.Core.Path.{_≡_, refl, sym, ap, _∙_}
 use mathlib.Core.Bool.{Bool, true, false, cond, false≢true}
-use mathlib.Core.Option.{Option, none, some}
+use mathlib.Core.Option.{none, some}
 use mathlib.Core.List.{List, [], _∷_}
 use native.Mathlib.Nat.{mod-lt, mul-one}
 use native.Mathlib.Omega.{arith}
 use borrow.Author.Tests.{eqb-true, eq-eqb}
-use lib.ListN.{length, take, drop}
+use lib.ListN.{length, drop}
 use lib.Dec.{eqb}
 use Rattle.rules.specs.Basics.{count, Each}
 use Rattle.rules.specs.Machine.{Machine}
@@ -18,9 +18,9 @@ use Rattle.rules.specs.SearchOrder.{Try, nodeAt}
 use Rattle.rules.specs.Calls.{Tables}
 use Rattle.rules.specs.Book.{Call}
 use Rattle.rules.proofs.Masks.{in-false}
-use Rattle.fairness.specs.Demand3.{jobIn, Grant, grants, row, PolicyKept, isOpen, placeOpen, placeGranted, nodeGranted, timesPlace, timesNode, FairPlaces, FairNodes, Fair, Demand3}
-use Rattle.fairness.proofs.Turns.{upto, hits, is, is-other, round, Under, upto-all, upto-is, upto-ext, round-once, Walk, at-least, exactly}
-use Rattle.fairness.proofs.Search.{Passing, first-around, RingGrant, ring-grant, InterleaveGrant, interleave-grant}
+use Rattle.fairness.specs.Demand3.{jobIn, Grant, grants, row, isOpen, placeOpen, placeGranted, nodeGranted, timesPlace, timesNode, FairPlaces, FairNodes, Demand3}
+use Rattle.fairness.proofs.Turns.{upto, hits, is, is-other, round, Under, upto-all, upto-is, round-once, Walk, at-least, exactly}
+use Rattle.fairness.proofs.Search.{first-around, RingGrant, ring-grant, InterleaveGrant, interleave-grant}
 use Rattle.fairness.proofs.Kept.{Served, Linked, linked, linked-drop, linked-take}
 
 hits-all : (ps : List ℕ) → hits (λ _. 1) ps ≡ length ps

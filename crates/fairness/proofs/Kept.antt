@@ -1,19 +1,18 @@
 -- What one call does to a job whose policy it may not set: nothing to its record, or a grant that moves its cursor; and so along a list.
 -- Assumes nothing.
-use Prim.Native.Nat.{ℕ, zero, suc, _+_, _*_, _^_, _≤_, _<_}
-use mathlib.Core.Path.{_≡_, refl, sym, ap, subst, _∙_}
+use Prim.Native.Nat.{ℕ, zero, suc}
+use mathlib.Core.Path.{_≡_, refl, sym, subst}
 use mathlib.Core.Logic.{_≢_}
-use mathlib.Core.Bool.{Bool, true, false, cond, false≢true}
-use mathlib.Core.Option.{Option, none, some}
+use mathlib.Core.Bool.{Bool, true, false, false≢true}
+use mathlib.Core.Option.{some}
 use mathlib.Core.List.{List, [], _∷_, _++_}
-use native.Mathlib.Omega.{arith}
 use borrow.Author.Tests.{eqb-true, eqb-false, eq-eqb, ne-eqb, ltb-true}
 use lib.ListN.{length, take, drop}
 use lib.Dec.{eqb}
 use Rattle.rules.specs.Machine.{Machine, nodeCount}
-use Rattle.rules.specs.Records.{Job, jobAt, putJob, jobCount, withCursor, wellFormed}
+use Rattle.rules.specs.Records.{Job, jobAt, jobCount, withCursor, wellFormed}
 use Rattle.rules.specs.SearchOrder.{Try, chosen, pickPage}
-use Rattle.rules.specs.Calls.{Answer, granted, released, done, refused, Tables, Decision, refuse, accept, orderOf, requestDecision, installDecision, rebindDecision, releaseDecision, clearDecision, granting, releasing, storing, onRequest, onRelease, onInstall, onRebind, onClear}
+use Rattle.rules.specs.Calls.{granted, Tables, Decision, refuse, accept, orderOf, requestDecision, installDecision, rebindDecision, releaseDecision, clearDecision, granting, releasing, storing, onRequest, onRelease, onInstall, onRebind, onClear}
 use Rattle.rules.specs.Book.{Call, request, release, install, rebind, clear, withLedger, step}
 use Rattle.rules.proofs.Calls.{accepted, granted-is, granted-in-node}
 use Rattle.rules.proofs.Records.{job-same, job-other}

@@ -1,25 +1,24 @@
 -- What a grant says of the search: in ring mode the place is the first open one, in interleave mode the target is the next effective node.
 -- Assumes nothing.
-use Prim.Native.Nat.{ℕ, zero, suc, _+_, _-_, _*_, _/_, _%_, _^_, _≤_, _<_, zero-le}
+use Prim.Native.Nat.{ℕ, zero, suc, _+_, _%_, _<_, zero-le}
 use mathlib.Core.Path.{_≡_, refl, sym, ap, _∙_}
-use mathlib.Core.Bool.{Bool, true, false, not, _&&_, cond, false≢true}
+use mathlib.Core.Bool.{Bool, true, false, _&&_, cond}
 use mathlib.Core.Option.{Option, none, some}
 use mathlib.Core.List.{List, [], _∷_, map}
 use native.Mathlib.Nat.{add-zero, add-suc, suc-add, zero-lt-suc}
 use native.Mathlib.Omega.{arith}
-use borrow.Author.Tests.{eqb-true, eqb-false, eq-eqb, ne-eqb, ltb-true, leb-true}
-use lib.ListN.{length}
+use borrow.Author.Tests.{eqb-true, ne-eqb}
 use lib.Dec.{eqb, ltb}
 use Rattle.rules.specs.Basics.{keep, first, around, between}
-use Rattle.rules.specs.Machine.{Machine, nodeCount, nodeOfCpu}
+use Rattle.rules.specs.Machine.{Machine, nodeCount}
 use Rattle.rules.specs.Masks.{maskBits, bit, has, isNone}
-use Rattle.rules.specs.Records.{Job, Mode, default, interleave, ring, modeOf, carries, dataFits, noMasks, wellFormed, placesPerJob, jobAt}
+use Rattle.rules.specs.Records.{Job, interleave, ring, carries, dataFits, noMasks, wellFormed, placesPerJob}
 use Rattle.rules.specs.SearchOrder.{Try, try, near, tried, nodeAt, ringTries, target, interleaved, orderIn, modeInForce, order, hasRoom, chosen}
 use Rattle.rules.specs.Calls.{Tables, limitOf, orderOf}
 use Rattle.rules.proofs.Lists.{both-true}
 use Rattle.rules.proofs.Masks.{bit-above}
 use Rattle.rules.proofs.Near.{near-order}
-use Rattle.rules.proofs.WellFormed.{Formed, formed}
+use Rattle.rules.proofs.WellFormed.{formed}
 use Rattle.fairness.specs.Demand3.{jobIn, isOpen, placeOpen}
 
 -- ---- the first that passes

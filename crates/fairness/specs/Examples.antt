@@ -1,6 +1,6 @@
 -- Demand 3 on machine A, computed: two jobs, refused calls and releases in between.
-use Prim.Native.Nat.{ℕ, _+_, _*_}
-use mathlib.Core.Bool.{Bool, true, false, _&&_}
+use Prim.Native.Nat.{ℕ, _*_}
+use mathlib.Core.Bool.{_&&_}
 use mathlib.Core.List.{List, [], _∷_, _++_, map}
 use lib.ListN.{length, replicate}
 use lib.Dec.{T, eqb}
@@ -10,7 +10,7 @@ use Rattle.rules.specs.Masks.{openMasks}
 use Rattle.rules.specs.Records.{openRecords, wordsPerJob}
 use Rattle.rules.specs.SearchOrder.{openSearchOrder}
 use Rattle.rules.specs.Calls.{openCalls, Tables}
-use Rattle.rules.specs.Book.{openBook, Call, request, release, install, rebind, clear, final}
+use Rattle.rules.specs.Book.{openBook, Call, request, release, install, rebind, final}
 use Rattle.rules.specs.Examples.{machineA}
 use Rattle.fairness.specs.Demand3.{Grant, grantBy, grantIn, grants, isOpen, placeOpen, placeGranted, nodeGranted, row, timesPlace, timesNode}
 

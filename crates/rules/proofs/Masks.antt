@@ -4,15 +4,15 @@ use mathlib.Core.Path.{_≡_, refl, sym, ap, ap₂, _∙_, subst}
 use mathlib.Core.Logic.{_⊎_, inl, inr, ⊎-elim}
 use mathlib.Core.Bool.{Bool, true, false, not, _&&_, cond}
 use Prim.Native.Nat.{ℕ, zero, suc, _+_, _-_, _*_, _/_, _%_, _^_, _≤_, _<_, zero-le, suc-le-suc, min, max}
-use native.Mathlib.Nat.{le-refl, le-trans, le-of-eq, lt-of-lt-of-le, lt-of-le-of-lt, le-of-suc-le-suc, not-suc-le-zero, zero-lt-suc, zero-add, add-zero, add-comm, mul-one, one-mul, zero-mul, pow-suc, pow-zero, mod-lt, mod-eq-of-lt, div-eq-of-lt, div-add-mod', mod-one, two-mul, mul-comm, add-sub-cancel, sub-add-cancel}
+use native.Mathlib.Nat.{le-refl, le-trans, lt-of-lt-of-le, lt-of-le-of-lt, le-of-suc-le-suc, not-suc-le-zero, zero-lt-suc, zero-add, add-zero, add-comm, one-mul, zero-mul, pow-suc, mod-lt, mod-eq-of-lt, div-eq-of-lt, mod-one}
 use native.Mathlib.Numerals.{add-one, one-add}
 use native.Mathlib.Omega.{arith}
-use lib.Arith.{digits-mod, digits-div, lt-one, le-zero}
+use lib.Arith.{digits-mod}
 use native.Mathlib.Decide.{le-ind, ℕ-discrete, decLt}
-use native.Mathlib.Nat.{add-suc, lt-of-not-le, add-sub-of-le, eq-or-lt-of-le, eq-zero-or-pos, div-self, div-one, le-total, lt-irrefl, le-of-lt, div-lt-iff-lt-mul}
-use lib.Pow.{le-ones, not-mod, ones-lt, pow-pos, pow-mono, pow-lt, pow-add, split, mod-pow-add, field, shr-shr, shr-lt, shr-le, high, low, ones-split}
-use lib.Bits.{bitXor, differ, xor-step, xor-shr, xor-add-and, and-self, and-le-r, bitAnd, bitOr, and-step, or-step, and-shr, or-shr, and-mask, and-high, or-lt, and-le-l, and-lt, or-add-and, and-comm, or-comm}
-use lib.Count.{ones, ones-step, ones-cat, trailingZeros, under}
+use native.Mathlib.Nat.{add-suc, lt-of-not-le, add-sub-of-le, eq-or-lt-of-le, div-self, div-one, lt-irrefl, div-lt-iff-lt-mul}
+use lib.Pow.{not-mod, ones-lt, pow-pos, pow-mono, pow-lt, pow-add, mod-pow-add, shr-shr, shr-le, low}
+use lib.Bits.{bitXor, differ, xor-step, xor-shr, xor-add-and, bitAnd, bitOr, and-step, or-step, and-shr, or-shr, and-mask, and-high, or-lt, and-le-l, or-add-and, and-comm}
+use lib.Count.{ones, ones-cat, trailingZeros, under}
 use lib.Dec.{eqb, ltb}
 use borrow.Author.Tests.{eqb-true, eqb-false, eq-eqb, ne-eqb, lt-ltb, le-ltb}
 use Rattle.rules.specs.Masks.{bit, has, below, rank, select, insert, image, maskOf, allNodes, foldedTo, folded, remappedTo, remapped}
