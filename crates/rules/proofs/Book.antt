@@ -31,12 +31,13 @@ unfolding final answers
 answers-append m t [] ds = refl
 answers-append m t (c ∷ cs) ds = ap (λ (l : List Answer). step m t c .answer ∷ l) (answers-append m (step m t c .tables) cs ds)
 
--- the tables keep their lengths
+-- the page table keeps its length
 pub final-ledger-length : (m : Machine) (t : Tables) (cs : List Call) → length (final m t cs .ledger) ≡ length (t .ledger)
 unfolding final
 final-ledger-length m t [] = refl
 final-ledger-length m t (c ∷ cs) = final-ledger-length m (step m t c .tables) cs ∙ ledger-length m t c
 
+-- and so does the job table
 pub final-records-length : (m : Machine) (t : Tables) (cs : List Call) → length (final m t cs .records) ≡ length (t .records)
 unfolding final
 final-records-length m t [] = refl

@@ -258,6 +258,7 @@ pub record Granted (m : Machine) (t : Tables) (j k n p : ℕ) : Type 0 where
   pub lowest : LowestFree m (t .ledger) n p
   pub allowed : has (limitOf t j) n ≡ true
 
+-- a grant is answered only so
 pub granted-is : (m : Machine) (t : Tables) (j k : ℕ) {n p : ℕ} → step m t (request j k) .answer ≡ granted n p → Granted m t j k n p
 unfolding step onRequest chosen orderOf
 granted-is m t j k {n} {p} e =
@@ -273,16 +274,19 @@ granted-is m t j k {n} {p} e =
       allowed = ap (has (limitOf t j)) (sym (g .2)) ∙ order-allowed m (limitOf t j) (jobAt (t .records) j) (nodeOfCpu m k) (first-member f);
     }
 
--- what else a grant says: the page was free and is one of the table's, it lies in node n, and n is a node of the machine
+-- the page of a grant was free
 pub granted-was-free : {m : Machine} {t : Tables} {j k n p : ℕ} → Granted m t j k n p → getD (t .ledger) p 1 ≡ 0
 granted-was-free g = g .lowest .page .free
 
+-- the page of a grant lies in the node granted
 pub granted-in-node : {m : Machine} {t : Tables} {j k n p : ℕ} → Granted m t j k n p → nodeOfPage (m .pageCounts) p ≡ n
 granted-in-node g = page-node (g .lowest .page .ofNode)
 
+-- it is below the number of pages
 pub granted-page-lt : {m : Machine} {t : Tables} {j k n p : ℕ} → Granted m t j k n p → p < sum (m .pageCounts)
 granted-page-lt g = page-lt (g .lowest .page .ofNode)
 
+-- the node is one of the machine
 pub granted-node-lt : {m : Machine} {t : Tables} {j k n p : ℕ} → Granted m t j k n p → n < nodeCount m
 granted-node-lt g = page-node-lt (g .lowest .page .ofNode)
 
@@ -292,10 +296,6 @@ pub earlier-full : {m : Machine} {t : Tables} {j k n p : ℕ} (g : Granted m t j
 earlier-full {m} {t} g {s} h = no-room m (t .ledger) (s .node) .0 (g .firstWithRoom .failed s h)
 
 module _ (m : Machine) (t : Tables) (j k : ℕ) (p : Passes m t j k) where
-  -- no node of the order has a free page
-  abbrev NoRoom : Type 0
-  NoRoom = (s : Try) → s ∈ orderOf m t j k → (q : ℕ) → FreePage m (t .ledger) (s .node) q → ⊥
-
   served-or-8 : (o : Option Try) → chosen m (t .ledger) (orderOf m t j k) ≡ o → (step m t (request j k) .answer ≡ refused 8) ↔ (o ≡ none)
   unfolding step onRequest granting serve
   served-or-8 none e = (λ h. refl, λ h. rw (passed m t j k p, e))
@@ -311,7 +311,7 @@ module _ (m : Machine) (t : Tables) (j k : ℕ) (p : Passes m t j k) where
       (λ e. b .0 (a .0 e), λ e. a .1 (b .1 e))
 
   -- "8 no node in the order has a free page": a request that passes 1 to 4 is refused 8 exactly then
-  pub room : (step m t (request j k) .answer ≡ refused 8) ↔ NoRoom
+  pub room : (step m t (request j k) .answer ≡ refused 8) ↔ ((s : Try) → s ∈ orderOf m t j k → (q : ℕ) → FreePage m (t .ledger) (s .node) q → ⊥)
   room = (
     λ e s h. no-room m (t .ledger) (s .node) .0 (any-false (λ (s : Try). hasRoom m (t .ledger) (s .node)) (room-test .0 e) h),
     λ f. room-test .1 (none-any _ (orderOf m t j k) (λ s h. no-room m (t .ledger) (s .node) .1 (f s h))),
@@ -349,6 +349,7 @@ pub record Released (m : Machine) (t : Tables) (j p n q : ℕ) : Type 0 where
   pub held : getD (t .ledger) q 0 ≡ j + 1
   pub nodeIs : nodeOfPage (m .pageCounts) q ≡ n
 
+-- a release is answered only so
 pub released-is : (m : Machine) (t : Tables) (j p : ℕ) {n q : ℕ} → step m t (release j p) .answer ≡ released n q → Released m t j p n q
 unfolding step onRelease releaseDecision holds
 released-is m t j p {n} {q} e =
@@ -407,13 +408,14 @@ in-table [] p d v e n = absurd (n (sym e))
 in-table (x ∷ xs) zero d v e n = omega arith
 in-table (x ∷ xs) (suc p) d v e n = omega (arith, in-table xs p d v e n)
 
--- a page that is granted or released is in the table
+-- a page that is granted is in the table
 pub granted-in-table : (m : Machine) (t : Tables) (c : Call) {n p : ℕ} → step m t c .answer ≡ granted n p → p < length (t .ledger)
 granted-in-table m t c {n} {p} e =
     let r = granted-by-request m t c e in
     let g = granted-is m t (jobOf c) (r .0) (ap (λ (c : Call). step m t c .answer) (sym (r .1)) ∙ e) in
     in-table (t .ledger) p 1 0 (granted-was-free g) (λ z. omega arith)
 
+-- a page that is released is in the table
 pub released-in-table : (m : Machine) (t : Tables) (c : Call) {n p : ℕ} → step m t c .answer ≡ released n p → p < length (t .ledger)
 released-in-table m t c {n} {p} e =
     let r = released-by-release m t c e in

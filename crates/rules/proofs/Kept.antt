@@ -116,7 +116,8 @@ passed : {A : Type 0} (b : Bool) (r : ℕ) (d : Decision A) {x : A} → unless b
 passed true r d e = (refl, e)
 passed false r d e = let z : _≡_ {A = ℕ} 0 1 = cc in absurd (omega arith)
 
-nodes-few : (n : ℕ) → nodesOk n ≡ true → n ≤ maskBits
+-- tables in order have at most 64 nodes
+pub nodes-few : (n : ℕ) → nodesOk n ≡ true → n ≤ maskBits
 unfolding nodesOk
 nodes-few n e = leb-true n 64 (both-true {a = leb 1 n} {b = leb n 64} e .1)
 
@@ -136,7 +137,7 @@ put-kept n t j x i g h = go (ℕ-discrete j i)
 
 -- ---- each call
 
-request-nodes : (m : Machine) (t : Tables) → requestTablesOk m t ≡ true → nodeCount m ≤ maskBits
+pub request-nodes : (m : Machine) (t : Tables) → requestTablesOk m t ≡ true → nodeCount m ≤ maskBits
 unfolding requestTablesOk machineOk
 request-nodes m t e =
     let n = nodeCount m in
@@ -146,7 +147,7 @@ request-nodes m t e =
     let s = both-true {a = nodesOk n && pagesOk (m .pageCounts)} {b = cpusOk n (m .cpuNodes)} (r .0) in
     nodes-few n (both-true {a = nodesOk n} {b = pagesOk (m .pageCounts)} (s .0) .0)
 
-record-nodes : (n words : ℕ) → recordTablesOk n words ≡ true → n ≤ maskBits
+pub record-nodes : (n words : ℕ) → recordTablesOk n words ≡ true → n ≤ maskBits
 unfolding recordTablesOk
 record-nodes n words e = nodes-few n (both-true {a = nodesOk n} {b = jobTableOk words} e .0)
 

@@ -6,6 +6,7 @@ pub mod Bytes
 pub mod Records
 pub mod WellFormed
 pub mod Kept
+pub mod Machine
 pub mod Near
 pub mod Pages
 pub mod Calls

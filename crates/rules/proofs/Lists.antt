@@ -1,15 +1,15 @@
 -- Laws of the words about lists and tests (specs/Basics), over any element type.
 -- Assumes nothing.
-use Prim.Native.Nat.{ℕ, zero, suc, _+_, _%_, _≤_, _<_}
-use mathlib.Core.Path.{_≡_, refl, sym, ap, subst, _∙_}
+use Prim.Native.Nat.{suc-le-suc, ℕ, zero, suc, _+_, _%_, _≤_, _<_}
+use mathlib.Core.Path.{_≡_, refl, sym, ap, ap₂, subst, _∙_}
 use mathlib.Core.Logic.{_↔_, ⊎-elim}
 use mathlib.Core.Bool.{Bool, true, false, not, _&&_, _||_, cond, true≢false, false≢true}
 use mathlib.Core.Option.{none, some}
-use mathlib.Core.List.{List, [], _∷_, _++_, map, List·Memᴰ, List·Memᴰ·head, List·Memᴰ·tail, List·Memᴰ·not-nil, List·Memᴰ·cases-cons, List·Memᴰ·append-cases, Memᴰ·append-left, Memᴰ·append-right, Memᴰ·cast}
-use native.Mathlib.Nat.{add-zero, eq-or-lt-of-le}
+use mathlib.Core.List.{List, [], _∷_, _++_, map, append-assoc, append-nil, List·Memᴰ, List·Memᴰ·head, List·Memᴰ·tail, List·Memᴰ·not-nil, List·Memᴰ·cases-cons, List·Memᴰ·append-cases, Memᴰ·append-left, Memᴰ·append-right, Memᴰ·cast}
+use native.Mathlib.Nat.{not-suc-le-zero, le-of-suc-le-suc, zero-lt-suc, add-zero, eq-or-lt-of-le}
 use native.Mathlib.Omega.{arith}
-use lib.ListN.{getD, take, drop, take-append-drop}
-use Rattle.rules.specs.Basics.{all, any, keep, first, firstOr, isEmpty, each, from, around, sum}
+use lib.ListN.{length, getD, take, drop, take-append-drop}
+use Rattle.rules.specs.Basics.{all, allAt, any, keep, first, firstOr, isEmpty, each, from, around, sum}
 
 -- ---- tests
 
@@ -18,6 +18,7 @@ pub both-true : {a b : Bool} → (a && b) ≡ true → (a ≡ true) × (b ≡ tr
 both-true {a = true} {b = b} h = (refl, h)
 both-true {a = false} {b = b} h = absurd (false≢true h)
 
+-- two tests that each hold, hold together
 pub both-hold : {a b : Bool} → a ≡ true → b ≡ true → (a && b) ≡ true
 both-hold p q = rw (p, q)
 
@@ -25,6 +26,12 @@ both-hold p q = rw (p, q)
 pub either-false : {a b : Bool} → (a || b) ≡ false → (a ≡ false) × (b ≡ false)
 either-false {a = true} {b = b} h = absurd (true≢false h)
 either-false {a = false} {b = b} h = (refl, h)
+
+-- two tests that hold in the same cases are the same
+pub same-test : {a b : Bool} → (a ≡ true → b ≡ true) → (b ≡ true → a ≡ true) → a ≡ b
+same-test {a = true} {b = b} f g = sym (f refl)
+same-test {a = false} {b = true} f g = g refl
+same-test {a = false} {b = false} f g = refl
 
 -- a test that does not hold fails
 pub fails : {a : Bool} → (a ≡ true → ⊥) → a ≡ false
@@ -72,6 +79,28 @@ module _ {A : Type 0} where
       go true e = ap (λ (l : List A). x ∷ l) e
       go false e = e
 
+  -- to keep twice is to keep by both tests
+  pub keep-keep : (p q : A → Bool) (xs : List A) → keep q (keep p xs) ≡ keep (λ x. p x && q x) xs
+  unfolding keep
+  keep-keep p q [] = refl
+  keep-keep p q (x ∷ xs) = go (p x) (keep-keep p q xs)
+    where
+      go : (b : Bool) → keep q (keep p xs) ≡ keep (λ x. p x && q x) xs
+          → keep q (cond b (x ∷ keep p xs) (keep p xs)) ≡ cond (b && q x) (x ∷ keep (λ x. p x && q x) xs) (keep (λ x. p x && q x) xs)
+      go true e = ap (λ (l : List A). cond (q x) (x ∷ l) l) e
+      go false e = e
+
+  -- the entry of a place in the list is one of the list
+  pub member-at : (xs : List A) (i : ℕ) (d : A) → i < length xs → getD xs i d ∈ xs
+  member-at [] i d h = absurd (not-suc-le-zero h)
+  member-at (x ∷ xs) zero d h = List·Memᴰ·head refl
+  member-at (x ∷ xs) (suc i) d h = List·Memᴰ·tail (member-at xs i d (le-of-suc-le-suc h))
+
+  -- and each one of the list is the entry of a place
+  pub at-member : (d : A) {xs : List A} {x : A} → x ∈ xs → (i : ℕ) × (i < length xs) × (getD xs i d ≡ x)
+  at-member d (List·Memᴰ·head q) = (0, zero-lt-suc _, sym q)
+  at-member d (List·Memᴰ·tail m) = let r = at-member d m in (suc (r .0), suc-le-suc (r .1), r .2)
+
   -- ---- some, every one, the first that passes
 
   -- some one passes: there is one of the list that does
@@ -103,6 +132,12 @@ module _ {A : Type 0} where
   all-true p {xs = y ∷ ys} h (List·Memᴰ·head q) = ap p q ∙ both-true h .0
   all-true p {xs = y ∷ ys} h (List·Memᴰ·tail m) = all-true p (both-true {a = p y} h .1) m
 
+  -- each one of the list passes: every one does
+  pub true-all : (p : A → Bool) (xs : List A) → ((x : A) → x ∈ xs → p x ≡ true) → all p xs ≡ true
+  unfolding all
+  true-all p [] h = refl
+  true-all p (y ∷ ys) h = rw (h y (List·Memᴰ·head refl)) (true-all p ys (λ x m. h x (List·Memᴰ·tail m)))
+
   -- where every one passes, every one is kept
   pub all-keep : (p : A → Bool) (xs : List A) → all p xs ≡ true → keep p xs ≡ xs
   unfolding all keep
@@ -127,6 +162,7 @@ module _ {A : Type 0} where
     pub passes : p x ≡ true
     pub failed : (y : A) → y ∈ before → p y ≡ false
 
+  -- the first that is kept is the first that passes
   pub first-keep : (p : A → Bool) (xs : List A) {x : A} → first (keep p xs) ≡ some x → FirstOf p xs x
   unfolding first keep
   first-keep p [] h = absurd (let z : _≡_ {A = ℕ} 0 1 = cc in omega arith)
@@ -193,6 +229,12 @@ module _ {A B : Type 0} where
   member-each f {xs = z ∷ zs} {y = y} (List·Memᴰ·head q) m = Memᴰ·append-left (each f zs) (subst (λ (x : A). y ∈ f x) q m)
   member-each f {xs = z ∷ zs} (List·Memᴰ·tail n) m = Memᴰ·append-right (f z) (member-each f n m)
 
+  -- lists that are the same for each one of xs are the same end to end
+  pub each-same : (f g : A → List B) (xs : List A) → ((x : A) → x ∈ xs → f x ≡ g x) → each f xs ≡ each g xs
+  unfolding each
+  each-same f g [] h = refl
+  each-same f g (x ∷ xs) h = ap₂ (λ (a b : List B). a ++ b) (h x (List·Memᴰ·head refl)) (each-same f g xs (λ y m. h y (List·Memᴰ·tail m)))
+
   -- one of map f xs is f x for some x
   pub map-member : (f : A → B) (xs : List A) {y : B} → y ∈ map f xs → (x : A) × (x ∈ xs) × (y ≡ f x)
   map-member f [] h = absurd (List·Memᴰ·not-nil h)
@@ -207,20 +249,29 @@ module _ {A B : Type 0} where
   member-map f (List·Memᴰ·head q) = List·Memᴰ·head (ap f q)
   member-map f (List·Memᴰ·tail m) = List·Memᴰ·tail (member-map f m)
 
--- from a k has the numbers from a on below a + k
+-- a number in from a k is from a on below a + k
 pub from-member : (a k : ℕ) {n : ℕ} → n ∈ from a k → (a ≤ n) × (n < a + k)
 unfolding from
 from-member a zero h = absurd (List·Memᴰ·not-nil h)
 from-member a (suc k) h =
     ⊎-elim (λ e. (omega arith, omega arith)) (λ m. let r = from-member (suc a) k m in (omega arith, omega arith)) (List·Memᴰ·cases-cons h)
 
+-- each number from a on below a + k is in from a k
 pub member-from : (a k n : ℕ) → a ≤ n → n < a + k → n ∈ from a k
 unfolding from
 member-from a zero n h l = absurd (omega arith)
 member-from a (suc k) n h l =
     ⊎-elim (λ e. List·Memᴰ·head (sym e)) (λ m. List·Memᴰ·tail (member-from (suc a) k n m (omega arith))) (eq-or-lt-of-le h)
 
--- around n c k has the positions of k numbers from c on
+-- the lists of one number more, at the end
+pub each-from-suc : {A : Type 0} (f : ℕ → List A) (a k : ℕ) → each f (from a (suc k)) ≡ each f (from a k) ++ f (a + k)
+unfolding each from
+each-from-suc f a zero = append-nil (f a) ∙ ap f (sym (add-zero a))
+each-from-suc {A} f a (suc k) =
+    ap (λ (l : List A). f a ++ l) (each-from-suc f (suc a) k ∙ ap (λ (j : ℕ). each f (from (suc a) k) ++ f j) (omega arith))
+    ∙ sym (append-assoc (f a) (each f (from (suc a) k)) (f (a + suc k)))
+
+-- a position in around n c k is that of one of the k numbers from c on
 pub around-member : (n c k : ℕ) {x : ℕ} → x ∈ around n c k → (i : ℕ) × (i < k) × (x ≡ (c + i) % n)
 unfolding around
 around-member n c zero h = absurd (List·Memᴰ·not-nil h)
@@ -230,6 +281,7 @@ around-member n c (suc k) h =
     (λ m. let r = around-member n (suc c) k m in (suc (r .0), omega (arith, r .1), r .2 ∙ ap (λ (y : ℕ). y % n) (omega arith)))
     (List·Memᴰ·cases-cons h)
 
+-- the position of each of the k numbers is in around n c k
 pub member-around : (n c k i : ℕ) → i < k → (c + i) % n ∈ around n c k
 unfolding around
 member-around n c zero i h = absurd (omega arith)
@@ -237,8 +289,28 @@ member-around n c (suc k) zero h = List·Memᴰ·head (ap (λ (y : ℕ). y % n) 
 member-around n c (suc k) (suc i) h =
     List·Memᴰ·tail (Memᴰ·cast (ap (λ (y : ℕ). y % n) (omega arith)) (member-around n (suc c) k i (omega arith)))
 
+-- ---- a test of each entry with its number
+
+-- a test that holds of each entry holds of the entry of each place
+pub allAt-true : (p : ℕ → ℕ → Bool) (k : ℕ) (xs : List ℕ) → allAt p k xs ≡ true → (i : ℕ) → i < length xs → p (k + i) (getD xs i 0) ≡ true
+unfolding allAt
+allAt-true p k [] h i l = absurd (not-suc-le-zero l)
+allAt-true p k (x ∷ xs) h zero l = rw add-zero (both-true h .0)
+allAt-true p k (x ∷ xs) h (suc i) l =
+    ap (λ (n : ℕ). p n (getD xs i 0)) (omega arith) ∙ allAt-true p (suc k) xs (both-true {a = p k x} h .1) i (le-of-suc-le-suc l)
+
+-- a test that holds of the entry of each place holds of each entry
+pub true-allAt : (p : ℕ → ℕ → Bool) (k : ℕ) (xs : List ℕ) → ((i : ℕ) → i < length xs → p (k + i) (getD xs i 0) ≡ true) → allAt p k xs ≡ true
+unfolding allAt
+true-allAt p k [] h = refl
+true-allAt p k (x ∷ xs) h =
+    both-hold
+    (ap (λ (n : ℕ). p n x) (sym (add-zero k)) ∙ h 0 (zero-lt-suc _))
+    (true-allAt p (suc k) xs (λ i l. ap (λ (n : ℕ). p n (getD xs i 0)) (omega arith) ∙ h (suc i) (suc-le-suc l)))
+
 -- ---- sums
 
+-- the sum of two lists end to end
 pub sum-append : (xs ys : List ℕ) → sum (xs ++ ys) ≡ sum xs + sum ys
 unfolding sum
 sum-append [] ys = omega arith
@@ -248,6 +320,7 @@ sum-append (x ∷ xs) ys = omega (arith, sum-append xs ys)
 pub sum-take-drop : (n : ℕ) (xs : List ℕ) → sum xs ≡ sum (take n xs) + sum (drop n xs)
 sum-take-drop n xs = ap sum (sym (take-append-drop n xs)) ∙ sum-append (take n xs) (drop n xs)
 
+-- the first n make no more than all
 pub sum-take-le : (n : ℕ) (xs : List ℕ) → sum (take n xs) ≤ sum xs
 sum-take-le n xs = omega (arith, sum-take-drop n xs)
 

@@ -2,14 +2,14 @@
 -- Assumes nothing.
 use mathlib.Core.Path.{_≡_, refl, sym, ap, ap₂, _∙_, subst}
 use mathlib.Core.Logic.{_⊎_, inl, inr, ⊎-elim}
-use mathlib.Core.Bool.{Bool, true, false, not, _&&_, cond}
+use mathlib.Core.Bool.{Bool, true, false, not, _&&_, _||_, cond}
 use Prim.Native.Nat.{ℕ, zero, suc, _+_, _-_, _*_, _/_, _%_, _^_, _≤_, _<_, zero-le, suc-le-suc, min, max}
 use native.Mathlib.Nat.{le-refl, le-trans, lt-of-lt-of-le, lt-of-le-of-lt, le-of-suc-le-suc, not-suc-le-zero, zero-lt-suc, zero-add, add-zero, add-comm, one-mul, zero-mul, pow-suc, mod-lt, mod-eq-of-lt, div-eq-of-lt, mod-one}
 use native.Mathlib.Numerals.{add-one, one-add}
 use native.Mathlib.Omega.{arith}
 use lib.Arith.{digits-mod}
 use native.Mathlib.Decide.{le-ind, ℕ-discrete, decLt}
-use native.Mathlib.Nat.{add-suc, lt-of-not-le, add-sub-of-le, eq-or-lt-of-le, div-self, div-one, lt-irrefl, div-lt-iff-lt-mul}
+use native.Mathlib.Nat.{add-suc, lt-of-not-le, add-sub-of-le, eq-or-lt-of-le, div-self, div-one, lt-irrefl, div-lt-iff-lt-mul, sub-le}
 use lib.Pow.{not-mod, ones-lt, pow-pos, pow-mono, pow-lt, pow-add, mod-pow-add, shr-shr, shr-le, low}
 use lib.Bits.{bitXor, differ, xor-step, xor-shr, xor-add-and, bitAnd, bitOr, and-step, or-step, and-shr, or-shr, and-mask, and-high, or-lt, and-le-l, or-add-and, and-comm}
 use lib.Count.{ones, ones-cat, trailingZeros, under}
@@ -538,3 +538,48 @@ same-bit a b n e = go (bit-cases a n) (bit-cases b n)
 -- a mask of w bits whose nodes are those that pass a test is the mask of the test
 pub maskOf-is : (w m : ℕ) (p : ℕ → Bool) → m < 2 ^ w → ((n : ℕ) → n < w → has m n ≡ p n) → m ≡ maskOf w p
 maskOf-is w m p h q = ext w m (maskOf w p) h (maskOf-lt w p) (λ n l. same-bit m (maskOf w p) n (q n l ∙ sym (has-maskOf w p n l)))
+
+-- tests that agree on the nodes below w have the same mask
+pub maskOf-same : (w : ℕ) (p q : ℕ → Bool) → ((n : ℕ) → n < w → p n ≡ q n) → maskOf w p ≡ maskOf w q
+maskOf-same w p q h = maskOf-is w (maskOf w p) q (maskOf-lt w p) (λ n l. has-maskOf w p n l ∙ h n l)
+
+-- a test that no node from n on passes needs no more than n bits
+pub maskOf-narrow : {n w : ℕ} (p : ℕ → Bool) → n ≤ w → ((k : ℕ) → n ≤ k → p k ≡ false) → maskOf w p ≡ maskOf n p
+unfolding maskOf
+maskOf-narrow {n} {w} p l h =
+    le-ind (λ (k : ℕ). maskOf k p ≡ maskOf n p) refl (λ k q e. rw (h k q) (add-zero (maskOf k p) ∙ e)) w l
+
+-- one turn of a loop that gathers the nodes that pass: node k passes and is put in, or it does not
+pub maskOf-take : (p : ℕ → Bool) (k : ℕ) {out next : ℕ} → p k ≡ true → out ≡ maskOf k p → next ≡ insert out k → next ≡ maskOf (k + 1) p
+unfolding maskOf
+maskOf-take p k t o x =
+    x ∙ ap (λ (m : ℕ). insert m k) o ∙ sym (top-insert k (maskOf k p) (maskOf-lt k p))
+    ∙ ap (λ (b : Bool). maskOf k p + cond b (2 ^ k) 0) (sym t) ∙ sym (ap (λ (n : ℕ). maskOf n p) (add-one k))
+
+pub maskOf-skip : (p : ℕ → Bool) (k : ℕ) {out next : ℕ} → p k ≡ false → out ≡ maskOf k p → next ≡ out → next ≡ maskOf (k + 1) p
+unfolding maskOf
+maskOf-skip p k t o x =
+    x ∙ o ∙ sym (add-zero (maskOf k p)) ∙ ap (λ (b : Bool). maskOf k p + cond b (2 ^ k) 0) (sym t) ∙ sym (ap (λ (n : ℕ). maskOf n p) (add-one k))
+
+-- the nodes below n that are not in the mask of a test are those that do not pass it
+pub maskOf-not : (n : ℕ) (p : ℕ → Bool) → allNodes n - maskOf n p ≡ maskOf n (λ k. not (p k))
+maskOf-not n p =
+    maskOf-is n (allNodes n - maskOf n p) (λ k. not (p k)) (lt-of-le-of-lt (sub-le (allNodes n) (maskOf n p)) (ones-lt n))
+    (λ k l. ap (λ (x : ℕ). eqb x 1) (bit-others n (maskOf n p) k (maskOf-lt n p) l) ∙ flip (bit (maskOf n p) k) (bit-lt (maskOf n p) k) ∙ ap not (has-maskOf n p k l))
+  where
+    flip : (d : ℕ) → d < 2 → eqb (1 - d) 1 ≡ not (eqb d 1)
+    flip zero h = refl
+    flip (suc zero) h = refl
+    flip (suc (suc d)) h = absurd (not-suc-le-zero (le-of-suc-le-suc (le-of-suc-le-suc h)))
+
+-- ---- both masks together
+
+-- a node is in `a | b` if it is in one of them
+pub has-or : (a b n : ℕ) → has (bitOr a b) n ≡ (has a n || has b n)
+has-or a b n = ap (λ (x : ℕ). eqb x 1) (bit-or a b n) ∙ go (bit-cases a n) (bit-cases b n)
+  where
+    go : (bit a n ≡ 0) ⊎ (bit a n ≡ 1) → (bit b n ≡ 0) ⊎ (bit b n ≡ 1) → eqb (max (bit a n) (bit b n)) 1 ≡ (has a n || has b n)
+    go (inl x) (inl y) = rw (x, y)
+    go (inl x) (inr y) = rw (x, y)
+    go (inr x) (inl y) = rw (x, y)
+    go (inr x) (inr y) = rw (x, y)

@@ -24,6 +24,7 @@ member-page counts n h =
     let f = from-member (firstPage counts n) (getD counts n 0) h in
     record { start = f .0; end = f .1 }
 
+-- and each page of node n is listed
 pub page-member : {counts : List ℕ} {n p : ℕ} → PageOf counts n p → p ∈ pagesOf counts n
 unfolding pagesOf
 page-member {counts} {n} {p} o = member-from (firstPage counts n) (getD counts n 0) p (o .start) (o .end)

@@ -67,10 +67,11 @@ first-passes p n c (suc k) t h e = go (p (c % n)) refl (first-passes p n (suc c)
 -- ---- the nodes of a mask
 
 -- a node of rank 0 has no node of the mask below it
-none-under : (m d i : ℕ) → rank m d ≡ 0 → i < d → bit m i ≡ 0
+pub none-under : (m d i : ℕ) → rank m d ≡ 0 → i < d → bit m i ≡ 0
 none-under m d i r l = ⊎-elim (λ z. z) (λ o. absurd (omega (arith, rank-lt m l o))) (bit-cases m i)
 
-not-in : (m n : ℕ) → bit m n ≡ 0 → has m n ≡ false
+-- a bit 0 stands for a node that is not in the mask
+pub not-in : (m n : ℕ) → bit m n ≡ 0 → has m n ≡ false
 not-in m n z = ne-eqb (bit m n) 1 (λ e. omega arith)
 
 -- there is a node at c or above: the lowest of them

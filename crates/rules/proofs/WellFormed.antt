@@ -48,9 +48,20 @@ pub record Formed (n : ℕ) (j : Job) : Type 0 where
   pub cursor-within : j .cursor ≤ cursorLimit n (j .len) (modeOf (j .mode))
   pub data-fits : dataFits n j (carries (modeOf (j .mode))) ≡ true
 
+-- the allowed mask of a record that passes lies below N and, but in mode 0, is not empty
+pub allowed-facts : (n : ℕ) (j : Job) → allowedFits n j ≡ true → (j .allowed < 2 ^ n) × ((j .mode ≡ 0) ⊎ (0 < j .allowed))
+unfolding allowedFits
+allowed-facts n j e =
+    let p = both-true {a = below n (j .allowed)} {b = eqb (j .mode) 0 || not (isNone (j .allowed))} e in
+    (ltb-true (j .allowed) (2 ^ n) (p .0), cases (or-cases (eqb (j .mode) 0) (not (isNone (j .allowed))) (p .1)))
+  where
+    cases : (eqb (j .mode) 0 ≡ true) ⊎ (not (isNone (j .allowed)) ≡ true) → (j .mode ≡ 0) ⊎ (0 < j .allowed)
+    cases (inl x) = inl (eqb-true (j .mode) 0 x)
+    cases (inr x) = inr (some-pos (j .allowed) x)
+
 -- a record that passes the test has these facts
 pub formed : (n : ℕ) (j : Job) → wellFormed n j ≡ true → Formed n j
-unfolding wellFormed allowedFits cursorFits
+unfolding wellFormed cursorFits
 formed n j e =
     let u = unusedZero j in
     let m = modeKnown (modeOf (j .mode)) in
@@ -63,20 +74,16 @@ formed n j e =
     let e₃ = both-true {a = u && m && f} {b = a} (e₄ .0) in
     let e₂ = both-true {a = u && m} {b = f} (e₃ .0) in
     let e₁ = both-true {a = u} {b = m} (e₂ .0) in
-    let low = both-true {a = below n (j .allowed)} {b = eqb (j .mode) 0 || not (isNone (j .allowed))} (e₃ .1) in
+    let low = allowed-facts n j (e₃ .1) in
     record {
       unused-zero = e₁ .0;
       mode-known = e₁ .1;
       flag-known = e₂ .1;
-      allowed-below = ltb-true (j .allowed) (2 ^ n) (low .0);
-      allowed-some = cases (or-cases (eqb (j .mode) 0) (not (isNone (j .allowed))) (low .1));
+      allowed-below = low .0;
+      allowed-some = low .1;
       cursor-within = leb-true _ _ (e₄ .1);
       data-fits = e₅ .1;
     }
-  where
-    cases : (eqb (j .mode) 0 ≡ true) ⊎ (not (isNone (j .allowed)) ≡ true) → (j .mode ≡ 0) ⊎ (0 < j .allowed)
-    cases (inl x) = inl (eqb-true (j .mode) 0 x)
-    cases (inr x) = inr (some-pos (j .allowed) x)
 
 -- and one that has them passes it
 pub well-formed : (n : ℕ) (j : Job) → Formed n j → wellFormed n j ≡ true
@@ -106,6 +113,32 @@ none-fit : (j : Job) → j .flag ≡ 0 → j .user ≡ 0 → j .effective ≡ 0 
 unfolding noMasks
 none-fit j f u e = rw (f, u, e)
 
+-- what a well-formed record carries, mode by mode
+pub carries-nothing : (n : ℕ) (j : Job) → dataFits n j nothing ≡ true → (j .flag ≡ 0) × (j .user ≡ 0) × (j .effective ≡ 0) × (j .len ≡ 0)
+unfolding dataFits
+carries-nothing n j e =
+    let p = both-true {a = noMasks j} {b = eqb (j .len) 0} e in
+    let z = none-there j (p .0) in
+    (z .0, z .1, z .2, eqb-true _ _ (p .1))
+
+pub carries-mask : (n : ℕ) (j : Job) → dataFits n j aMask ≡ true → j .len ≡ 0
+unfolding dataFits
+carries-mask n j e = eqb-true _ _ (both-true {a = masksFit n j} {b = eqb (j .len) 0} e .1)
+
+pub carries-list : (n : ℕ) (j : Job) → dataFits n j aList ≡ true
+    → (j .flag ≡ 0) × (j .user ≡ 0) × (j .effective ≡ 0) × (1 ≤ j .len) × (j .len ≤ placesPerJob)
+unfolding dataFits
+carries-list n j e =
+    let p = both-true {a = noMasks j} {b = between 1 placesPerJob (j .len)} e in
+    let z = none-there j (p .0) in
+    let l = both-true {a = leb 1 (j .len)} {b = leb (j .len) placesPerJob} (p .1) in
+    (z .0, z .1, z .2, leb-true _ _ (l .0), leb-true _ _ (l .1))
+
+-- the unused bits of a well-formed record are zero
+pub rest-zero : (n : ℕ) (j : Job) → Formed n j → j .rest ≡ 0
+unfolding unusedZero
+rest-zero n j h = eqb-true _ _ (both-true {a = eqb (j .rest) 0} {b = all (eqb 0) (drop (j .len) (j .bytes))} (h .unused-zero) .0)
+
 -- ---- the effective mask
 
 -- a mask of nodes below n has at most 64 bits
@@ -118,7 +151,7 @@ both-within a b h =
     bits-within maskBits (both a b) b (lt-of-le-of-lt (and-le-r a b) h) (λ n e. omega (arith, bit-and a b n, bit-lt a n, bit-lt b n))
 
 -- mode 0 carries no mask
-mask-mode : (mode : ℕ) → carries (modeOf mode) ≡ aMask → mode ≡ 0 → ⊥
+pub mask-mode : (mode : ℕ) → carries (modeOf mode) ≡ aMask → mode ≡ 0 → ⊥
 unfolding carries
 mask-mode zero e z = let x : _≡_ {A = ℕ} 0 1 = cc in omega arith
 mask-mode (suc n) e z = omega arith
@@ -167,7 +200,7 @@ image-none f zero = refl
 image-none f (suc w) = image-out 0 f w (λ e. omega (arith, bit-above 0 0 w (pow-pos 0) zero-le)) ∙ image-none f w
 
 -- the empty mask remapped is empty
-remapped-none : (w old new : ℕ) → remapped w 0 old new ≡ 0
+pub remapped-none : (w old new : ℕ) → remapped w 0 old new ≡ 0
 unfolding remapped
 remapped-none w old new = image-none (remappedTo w old new) w
 
@@ -373,11 +406,9 @@ fresh-formed n = record {
 -- a well-formed record has at most sixteen places
 pub short-list : (n : ℕ) (j : Job) (k : Carries) → dataFits n j k ≡ true → j .len ≤ placesPerJob
 unfolding dataFits
-short-list n j nothing e = le-trans (le-of-eq (eqb-true (j .len) 0 (both-true {a = noMasks j} {b = eqb (j .len) 0} e .1))) zero-le
-short-list n j aMask e = le-trans (le-of-eq (eqb-true (j .len) 0 (both-true {a = masksFit n j} {b = eqb (j .len) 0} e .1))) zero-le
-short-list n j aList e =
-    leb-true (j .len) placesPerJob
-    (both-true {a = leb 1 (j .len)} {b = leb (j .len) placesPerJob} (both-true {a = noMasks j} {b = between 1 placesPerJob (j .len)} e .1) .1)
+short-list n j nothing e = le-trans (le-of-eq (carries-nothing n j e .3)) zero-le
+short-list n j aMask e = le-trans (le-of-eq (carries-mask n j e)) zero-le
+short-list n j aList e = carries-list n j e .4
 short-list n j unknown e = absurd (false≢true e)
 
 -- a cursor within its limit is a byte
