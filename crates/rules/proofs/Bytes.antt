@@ -68,16 +68,18 @@ from-bytes-lt (b ∷ bs) h =
     let high : fromBytes bs < 2 ^ (8 * length bs) = from-bytes-lt bs (λ k. h (suc k)) in
     rw (e, pow-add 2 (8 * length bs) 8) (omega arith)
 
--- a part of a list of bytes, and two lists of bytes end to end, are lists of bytes
+-- bytes but the first n are bytes
 pub drop-bytes : (n : ℕ) (bs : List ℕ) → AreBytes bs → AreBytes (drop n bs)
 drop-bytes n bs h k = rw getD-drop (h (n + k))
 
+-- the first n bytes are bytes
 pub take-bytes : (n : ℕ) (bs : List ℕ) → AreBytes bs → AreBytes (take n bs)
 take-bytes zero bs h k = omega arith
 take-bytes (suc n) [] h k = omega arith
 take-bytes (suc n) (b ∷ bs) h zero = h 0
 take-bytes (suc n) (b ∷ bs) h (suc k) = take-bytes n bs (λ i. h (suc i)) k
 
+-- two lists of bytes, end to end, are bytes
 pub append-bytes : (xs bs : List ℕ) → AreBytes xs → AreBytes bs → AreBytes (xs ++ bs)
 append-bytes [] bs h l k = l k
 append-bytes (x ∷ xs) bs h l zero = h 0

@@ -116,7 +116,7 @@ passed : {A : Type 0} (b : Bool) (r : ℕ) (d : Decision A) {x : A} → unless b
 passed true r d e = (refl, e)
 passed false r d e = let z : _≡_ {A = ℕ} 0 1 = cc in absurd (omega arith)
 
--- tables in order have at most 64 nodes
+-- "N nodes, 1 to 64"
 pub nodes-few : (n : ℕ) → nodesOk n ≡ true → n ≤ maskBits
 unfolding nodesOk
 nodes-few n e = leb-true n 64 (both-true {a = leb 1 n} {b = leb n 64} e .1)
@@ -137,6 +137,7 @@ put-kept n t j x i g h = go (ℕ-discrete j i)
 
 -- ---- each call
 
+-- tables in order at a request have at most 64 nodes
 pub request-nodes : (m : Machine) (t : Tables) → requestTablesOk m t ≡ true → nodeCount m ≤ maskBits
 unfolding requestTablesOk machineOk
 request-nodes m t e =
@@ -147,6 +148,7 @@ request-nodes m t e =
     let s = both-true {a = nodesOk n && pagesOk (m .pageCounts)} {b = cpusOk n (m .cpuNodes)} (r .0) in
     nodes-few n (both-true {a = nodesOk n} {b = pagesOk (m .pageCounts)} (s .0) .0)
 
+-- N in order is at most 64
 pub record-nodes : (n words : ℕ) → recordTablesOk n words ≡ true → n ≤ maskBits
 unfolding recordTablesOk
 record-nodes n words e = nodes-few n (both-true {a = nodesOk n} {b = jobTableOk words} e .0)

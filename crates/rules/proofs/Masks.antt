@@ -10,7 +10,7 @@ use native.Mathlib.Omega.{arith}
 use lib.Arith.{digits-mod}
 use native.Mathlib.Decide.{le-ind, ℕ-discrete, decLt}
 use native.Mathlib.Nat.{add-suc, lt-of-not-le, add-sub-of-le, eq-or-lt-of-le, div-self, div-one, lt-irrefl, div-lt-iff-lt-mul, sub-le}
-use lib.Pow.{not-mod, ones-lt, pow-pos, pow-mono, pow-lt, pow-add, mod-pow-add, shr-shr, shr-le, low}
+use lib.Pow.{not-mod, ones-lt, pow-pos, pow-mono, pow-lt, pow-add, mod-pow-add, shr-shr, shr-le}
 use lib.Bits.{bitXor, differ, xor-step, xor-shr, xor-add-and, bitAnd, bitOr, and-step, or-step, and-shr, or-shr, and-mask, and-high, or-lt, and-le-l, or-add-and, and-comm}
 use lib.Count.{ones, ones-cat, trailingZeros, under}
 use lib.Dec.{eqb, ltb}
@@ -19,6 +19,7 @@ use Rattle.rules.specs.Masks.{bit, has, below, rank, select, insert, ima
 
 -- ---- bits
 
+-- a bit is 0 or 1
 pub bit-lt : (m n : ℕ) → bit m n < 2
 bit-lt m n = mod-lt (m / 2 ^ n) (zero-lt-suc 1)
 
@@ -27,6 +28,7 @@ two-cases zero h = inl refl
 two-cases (suc zero) h = inr refl
 two-cases (suc (suc d)) h = absurd (not-suc-le-zero (le-of-suc-le-suc (le-of-suc-le-suc h)))
 
+-- a bit is 0, or it is 1
 pub bit-cases : (m n : ℕ) → (bit m n ≡ 0) ⊎ (bit m n ≡ 1)
 bit-cases m n = two-cases (bit m n) (bit-lt m n)
 
@@ -62,9 +64,11 @@ or-digit a b =
     ap (λ (x : ℕ). x % 2) (or-step a b)
     ∙ digits-mod (bitOr (a / 2) (b / 2)) (omega (arith, mod-lt a (zero-lt-suc 1), mod-lt b (zero-lt-suc 1)))
 
+-- a bit of `a & b` is in both
 pub bit-and : (a b n : ℕ) → bit (bitAnd a b) n ≡ min (bit a n) (bit b n)
 bit-and a b n = ap (λ (x : ℕ). x % 2) (and-shr a b n) ∙ and-digit (a / 2 ^ n) (b / 2 ^ n)
 
+-- a bit of `a | b` is in one of them
 pub bit-or : (a b n : ℕ) → bit (bitOr a b) n ≡ max (bit a n) (bit b n)
 bit-or a b n = ap (λ (x : ℕ). x % 2) (or-shr a b n) ∙ or-digit (a / 2 ^ n) (b / 2 ^ n)
 
@@ -94,6 +98,7 @@ one-shifted w n h = ap (λ (x : ℕ). x % 2 ^ w) (one-mul (2 ^ n)) ∙ mod-eq-of
 
 -- ---- ranks and sizes are counts of ones
 
+-- the rank of the next node counts this one
 pub rank-step : (m n : ℕ) → rank m (suc n) ≡ rank m n + bit m n
 unfolding rank
 rank-step m n = refl
@@ -121,6 +126,7 @@ ones-size w m h = ap ones (sym (mod-eq-of-lt h)) ∙ ones-low m w
 pub ones-rank : (m n : ℕ) → ones (bitAnd m (2 ^ n - 1)) ≡ rank m n
 ones-rank m n = ap ones (and-mask m n) ∙ ones-low m n
 
+-- a higher node has no lower rank
 pub rank-mono : (m : ℕ) {a b : ℕ} → a ≤ b → rank m a ≤ rank m b
 rank-mono m {a} {b} h =
     le-ind (λ (k : ℕ). rank m a ≤ rank m k) (le-refl (rank m a)) (λ k l e. omega (arith, rank-step m k)) b h
@@ -129,6 +135,7 @@ rank-mono m {a} {b} h =
 pub rank-lt : (m : ℕ) {n w : ℕ} → n < w → bit m n ≡ 1 → rank m n < rank m w
 rank-lt m {n} {w} h e = omega (arith, rank-step m n, rank-mono m h)
 
+-- a rank is at most the node number
 pub rank-le : (m n : ℕ) → rank m n ≤ n
 unfolding rank
 rank-le m zero = le-refl 0
@@ -171,11 +178,13 @@ member-of-rank (suc w) m r h = go (λ l. member-of-rank w m r l) (bit-cases m w)
     go ih (inl b) (inl x) = absurd (omega arith)
     go ih (inr b) (inl x) = (w, le-refl (suc w), b, sym x)
 
+-- n is the node of rank r in a mask of w bits
 pub record IsNode (m w r n : ℕ) : Type 0 where
   pub small : n < w
   pub member : bit m n ≡ 1
   pub ranked : rank m n ≡ r
 
+-- each rank below the size has its node
 pub select-is : (w m r : ℕ) → r < rank m w → IsNode m w r (select w m r)
 select-is w m r h =
     let x = member-of-rank w m r h in
@@ -187,11 +196,13 @@ select-is w m r h =
 pub bit-suc : (m n : ℕ) → bit m (suc n) ≡ bit (m / 2) n
 bit-suc m n = ap (λ (x : ℕ). x % 2) (ap (λ (x : ℕ). m / 2 ^ x) (sym (one-add n)) ∙ sym (shr-shr m 1 n))
 
+-- the ones below n + 1 are the lowest bit and the ones of m / 2 below n
 pub rank-suc : (m n : ℕ) → rank m (suc n) ≡ m % 2 + rank (m / 2) n
 unfolding rank
 rank-suc m zero = zero-add (bit m 0) ∙ ap (λ (x : ℕ). x % 2) (div-one m) ∙ sym (add-zero (m % 2))
 rank-suc m (suc n) = omega (arith, rank-suc m n, bit-suc m n)
 
+-- `trailing_zeros(m)` is a node of the mask, and none is below it
 pub trailing-is : (w m : ℕ) → 0 < m → m < 2 ^ w → IsNode m w 0 (trailingZeros w m)
 unfolding trailingZeros rank
 trailing-is zero m p h = absurd (omega arith)
@@ -213,6 +224,7 @@ trailing-select w m p h = let i = trailing-is w m p h in sym (select-at w m _ 0 
 pub size-pos : (w m : ℕ) → 0 < m → m < 2 ^ w → 0 < rank m w
 size-pos w m p h = let i = trailing-is w m p h in omega (arith, rank-lt m (i .small) (i .member))
 
+-- an empty mask has no ones
 pub rank-zero : (n : ℕ) → rank 0 n ≡ 0
 unfolding rank
 rank-zero zero = refl
@@ -220,6 +232,7 @@ rank-zero (suc n) = omega (arith, rank-zero n, bit-above 0 0 n (zero-lt-suc 0) z
 
 -- ---- one node, all nodes below k
 
+-- the mask of one node has that node
 pub bit-one : (n : ℕ) → bit (2 ^ n) n ≡ 1
 bit-one n = ap (λ (x : ℕ). x % 2) (div-self (pow-pos n))
 
@@ -233,6 +246,7 @@ one-digit zero p l h e = absurd (omega arith)
 one-digit (suc zero) p l h e = refl
 one-digit (suc (suc d)) p l h e = absurd (not-suc-le-zero (le-of-suc-le-suc (le-of-suc-le-suc l)))
 
+-- and no other
 pub bit-other : (n k : ℕ) → (n ≡ k → ⊥) → bit (2 ^ n) k ≡ 0
 bit-other n k h = go (lt-cases n k)
   where
@@ -248,32 +262,39 @@ bit-other n k h = go (lt-cases n k)
         zero-digit (bit (2 ^ n) k) (2 ^ k) (bit-lt (2 ^ n) k) (pow-pos k)
         (sym (and-one (2 ^ n) k) ∙ and-comm (2 ^ n) (2 ^ k) ∙ and-one (2 ^ k) n ∙ ap (λ (x : ℕ). x * 2 ^ n) z ∙ zero-mul (2 ^ n))
 
+-- all nodes below k has each node below k
 pub bit-below : (k n : ℕ) → n < k → bit (allNodes k) n ≡ 1
 bit-below k n h =
     one-digit (bit (allNodes k) n) (2 ^ n) (bit-lt (allNodes k) n) (pow-pos n)
     (sym (and-one (allNodes k) n) ∙ and-comm (allNodes k) (2 ^ n) ∙ and-mask (2 ^ n) k ∙ mod-eq-of-lt (pow-lt h))
 
+-- and none from k on
 pub bit-below-out : (k n : ℕ) → k ≤ n → bit (allNodes k) n ≡ 0
 bit-below-out k n h = bit-above k (allNodes k) n (ones-lt k) h
 
 -- ---- m with one node more
 
+-- a mask with one node more has its own nodes and that one
 pub bit-insert : (m n k : ℕ) → bit (insert m n) k ≡ max (bit m k) (bit (2 ^ n) k)
 bit-insert m n k = ap (λ (x : ℕ). bit x k) (sym (or-one m n)) ∙ bit-or m (2 ^ n) k
 
+-- a node below w leaves a mask of w bits
 pub insert-lt : (w m n : ℕ) → m < 2 ^ w → n < w → insert m n < 2 ^ w
 insert-lt w m n h l = subst (λ (x : ℕ). x < 2 ^ w) (or-one m n) (or-lt w m (2 ^ n) h (pow-lt l))
 
 -- ---- the nodes f b, for b in u
 
+-- one b more that is in u puts f b in
 pub image-in : (u : ℕ) (f : ℕ → ℕ) (b : ℕ) → bit u b ≡ 1 → image u f (suc b) ≡ insert (image u f b) (f b)
 unfolding image
 image-in u f b e = ap (λ (t : Bool). cond t (insert (image u f b) (f b)) (image u f b)) (eq-eqb (bit u b) 1 e)
 
+-- one b more that is not in u changes nothing
 pub image-out : (u : ℕ) (f : ℕ → ℕ) (b : ℕ) → (bit u b ≡ 1 → ⊥) → image u f (suc b) ≡ image u f b
 unfolding image
 image-out u f b e = ap (λ (t : Bool). cond t (insert (image u f b) (f b)) (image u f b)) (ne-eqb (bit u b) 1 e)
 
+-- nodes f b below k make a mask of k bits
 pub image-lt : (k u : ℕ) (f : ℕ → ℕ) (w : ℕ) → ((b : ℕ) → b < w → bit u b ≡ 1 → f b < k) → image u f w < 2 ^ k
 unfolding image
 image-lt k u f zero h = pow-pos k
@@ -318,12 +339,15 @@ image-only u f (suc w) n h = go (λ x. image-only u f w n x) (bit-cases u w) (bi
 
 -- ---- as the code counts and tests: `n + 1`, and the answer of a test
 
+-- the rank of node n + 1
 pub rank-next : (m n : ℕ) → rank m (n + 1) ≡ rank m n + bit m n
 rank-next m n = ap (rank m) (add-one n) ∙ rank-step m n
 
+-- a test that held: the bit is 1
 pub in-true : (m n : ℕ) {r : Bool} → r ≡ has m n → r ≡ true → bit m n ≡ 1
 in-true m n e t = eqb-true (bit m n) 1 (sym e ∙ t)
 
+-- a test that failed: the bit is 0
 pub in-false : (m n : ℕ) {r : Bool} → r ≡ has m n → r ≡ false → bit m n ≡ 0
 in-false m n e t = ⊎-elim (λ z. z) (λ o. absurd (eqb-false (bit m n) 1 (sym e ∙ t) o)) (bit-cases m n)
 
@@ -331,6 +355,7 @@ in-false m n e t = ⊎-elim (λ z. z) (λ o. absurd (eqb-false (bit m n) 1 (sym 
 pub image-take : (u : ℕ) (f : ℕ → ℕ) (b : ℕ) {out next n : ℕ} → bit u b ≡ 1 → out ≡ image u f b → n ≡ f b → next ≡ insert out n → next ≡ image u f (b + 1)
 image-take u f b e o q x = x ∙ ap₂ insert o q ∙ sym (ap (image u f) (add-one b) ∙ image-in u f b e)
 
+-- or b is not in u and nothing is put in
 pub image-skip : (u : ℕ) (f : ℕ → ℕ) (b : ℕ) {out next : ℕ} → bit u b ≡ 0 → out ≡ image u f b → next ≡ out → next ≡ image u f (b + 1)
 image-skip u f b e o x = x ∙ o ∙ sym (ap (image u f) (add-one b) ∙ image-out u f b (λ y. omega arith))
 
@@ -349,12 +374,15 @@ module _ (w u : ℕ) (f : ℕ → ℕ) (r : ℕ → ℕ) (m : ℕ) (p : 0 < m) (
   to-member : (b : ℕ) → IsNode m w (r b % rank m w) (f b)
   to-member b = subst (IsNode m w (r b % rank m w)) (sym (g b)) (select-mod w m (r b) p h)
 
+  -- what is carried into m is a mask of w bits
   pub onto-lt : image u f w < 2 ^ w
   onto-lt = image-lt w u f w (λ b l e. to-member b .small)
 
+  -- it lies within m
   pub onto-within : (n : ℕ) → bit (image u f w) n ≡ 1 → bit m n ≡ 1
   onto-within n e = let x = image-only u f w n e in ap (bit m) (sym (x .3)) ∙ to-member (x .0) .member
 
+  -- it is not empty where the source is not
   pub onto-pos : 0 < u → u < 2 ^ w → 0 < image u f w
   onto-pos q l =
       let t = trailing-is w u q l in
@@ -367,9 +395,11 @@ module _ (w u : ℕ) (f : ℕ → ℕ) (r : ℕ → ℕ) (m : ℕ) (p : 0 < m) (
 
 -- ---- a mask within another
 
+-- each node of a mask within another is in the other
 pub within-bits : (a b : ℕ) → bitAnd a b ≡ a → (n : ℕ) → bit a n ≡ 1 → bit b n ≡ 1
 within-bits a b e n o = omega (arith, bit-and a b n, ap (λ (x : ℕ). bit x n) e, bit-lt b n)
 
+-- a mask whose nodes are all in another is within it
 pub bits-within : (w a b : ℕ) → a < 2 ^ w → ((n : ℕ) → bit a n ≡ 1 → bit b n ≡ 1) → bitAnd a b ≡ a
 bits-within w a b h q =
     ext w (bitAnd a b) a (lt-of-le-of-lt (and-le-l a b) h) h
@@ -377,14 +407,17 @@ bits-within w a b h q =
 
 -- ---- from bit k on: `m >> k`
 
+-- bit n of `m >> k` is bit k + n
 pub bit-shift : (m k n : ℕ) → bit (m / 2 ^ k) n ≡ bit m (k + n)
 bit-shift m k n = ap (λ (x : ℕ). x % 2) (shr-shr m k n)
 
+-- the ones below k + n are those below k and those of `m >> k` below n
 pub rank-shift : (m k n : ℕ) → rank m (k + n) ≡ rank m k + rank (m / 2 ^ k) n
 unfolding rank
 rank-shift m k zero = ap (rank m) (add-zero k) ∙ sym (add-zero (rank m k))
 rank-shift m k (suc n) = ap (rank m) (add-suc k n) ∙ omega (arith, rank-step m (k + n), rank-shift m k n, bit-shift m k n)
 
+-- the nodes of a mask of w bits are below w
 pub below-width : (w m n : ℕ) → m < 2 ^ w → bit m n ≡ 1 → n < w
 below-width w m n h e = lt-of-not-le (λ l. absurd (omega (arith, bit-above w m n h l)))
 
@@ -407,6 +440,7 @@ rank-all w m k h l e =
 
 -- ---- the nodes below k that are not in m
 
+-- a bit of `a ^ b` is in exactly one of them
 pub bit-xor : (a b n : ℕ) → bit (bitXor a b) n ≡ differ (bit a n) (bit b n)
 bit-xor a b n =
     ap (λ (x : ℕ). x % 2) (xor-shr a b n ∙ xor-step (a / 2 ^ n) (b / 2 ^ n))
@@ -418,9 +452,11 @@ bit-xor a b n =
     small (suc zero) (suc y) h l = omega arith
     small (suc (suc x)) y h l = absurd (not-suc-le-zero (le-of-suc-le-suc (le-of-suc-le-suc h)))
 
+-- `m ^ all` is what m lacks of all nodes below k
 pub xor-below : (k m : ℕ) → m < 2 ^ k → bitXor m (allNodes k) ≡ allNodes k - m
 xor-below k m h = omega (arith, xor-add-and m (allNodes k), and-mask m k, mod-eq-of-lt h)
 
+-- the nodes below k that are not in m
 pub bit-others : (k m n : ℕ) → m < 2 ^ k → n < k → bit (allNodes k - m) n ≡ 1 - bit m n
 bit-others k m n h l =
     ap (λ (x : ℕ). bit x n) (sym (xor-below k m h)) ∙ bit-xor m (allNodes k) n ∙ ap (differ (bit m n)) (bit-below k n l) ∙ flip (bit m n) (bit-lt m n)
@@ -445,26 +481,32 @@ and-one-test m n = ap (λ (x : ℕ). not (eqb x 0)) (and-one m n) ∙ go (bit m 
 
 -- what is folded or remapped is a mask of w bits, lies within the target and is not empty where the source is not
 module _ (w u m : ℕ) (p : 0 < m) (h : m < 2 ^ w) where
+  -- a folded mask has w bits
   pub folded-lt : folded w u m < 2 ^ w
   unfolding folded
   folded-lt = onto-lt w u (foldedTo w m) (λ b. b) m p h (λ b. refl)
 
+  -- it lies within the allowed set
   pub folded-within : bitAnd (folded w u m) m ≡ folded w u m
   unfolding folded
   folded-within = bits-within w (folded w u m) m (onto-lt w u (foldedTo w m) (λ b. b) m p h (λ b. refl)) (onto-within w u (foldedTo w m) (λ b. b) m p h (λ b. refl))
 
+  -- it is not empty where the user mask is not
   pub folded-pos : 0 < u → u < 2 ^ w → 0 < folded w u m
   unfolding folded
   folded-pos = onto-pos w u (foldedTo w m) (λ b. b) m p h (λ b. refl)
 
+  -- a remapped mask has w bits
   pub remapped-lt : (old : ℕ) → remapped w u old m < 2 ^ w
   unfolding remapped
   remapped-lt old = onto-lt w u (remappedTo w old m) (rank old) m p h (λ b. refl)
 
+  -- it lies within the new allowed set
   pub remapped-within : (old : ℕ) → bitAnd (remapped w u old m) m ≡ remapped w u old m
   unfolding remapped
   remapped-within old = bits-within w (remapped w u old m) m (onto-lt w u (remappedTo w old m) (rank old) m p h (λ b. refl)) (onto-within w u (remappedTo w old m) (rank old) m p h (λ b. refl))
 
+  -- it is not empty where the effective mask is not
   pub remapped-pos : (old : ℕ) → 0 < u → u < 2 ^ w → 0 < remapped w u old m
   unfolding remapped
   remapped-pos old = onto-pos w u (remappedTo w old m) (rank old) m p h (λ b. refl)
@@ -556,6 +598,7 @@ maskOf-take p k t o x =
     x ∙ ap (λ (m : ℕ). insert m k) o ∙ sym (top-insert k (maskOf k p) (maskOf-lt k p))
     ∙ ap (λ (b : Bool). maskOf k p + cond b (2 ^ k) 0) (sym t) ∙ sym (ap (λ (n : ℕ). maskOf n p) (add-one k))
 
+-- or node k does not pass and nothing is put in
 pub maskOf-skip : (p : ℕ → Bool) (k : ℕ) {out next : ℕ} → p k ≡ false → out ≡ maskOf k p → next ≡ out → next ≡ maskOf (k + 1) p
 unfolding maskOf
 maskOf-skip p k t o x =

@@ -37,10 +37,12 @@ decoded-storable w = record {
   are-bytes = append-bytes (bytesOf 8 (getD w 4 0)) (bytesOf 8 (getD w 5 0)) (bytes-small 8 (getD w 4 0)) (bytes-small 8 (getD w 5 0));
 }
 
+-- every record of the table can be stored
 pub job-storable : (t : List ℕ) (j : ℕ) → Storable (jobAt t j)
 unfolding jobAt
 job-storable t j = decoded-storable (take wordsPerJob (drop (wordsPerJob * j) t))
 
+-- a fresh record can be stored
 pub fresh-storable : Storable fresh
 unfolding fresh
 fresh-storable = decoded-storable (replicate wordsPerJob 0)

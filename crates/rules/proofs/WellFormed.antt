@@ -113,7 +113,7 @@ none-fit : (j : Job) → j .flag ≡ 0 → j .user ≡ 0 → j .effective ≡ 0 
 unfolding noMasks
 none-fit j f u e = rw (f, u, e)
 
--- what a well-formed record carries, mode by mode
+-- mode 0: flag 0, no masks, no list
 pub carries-nothing : (n : ℕ) (j : Job) → dataFits n j nothing ≡ true → (j .flag ≡ 0) × (j .user ≡ 0) × (j .effective ≡ 0) × (j .len ≡ 0)
 unfolding dataFits
 carries-nothing n j e =
@@ -121,10 +121,12 @@ carries-nothing n j e =
     let z = none-there j (p .0) in
     (z .0, z .1, z .2, eqb-true _ _ (p .1))
 
+-- modes 1 to 3: no list
 pub carries-mask : (n : ℕ) (j : Job) → dataFits n j aMask ≡ true → j .len ≡ 0
 unfolding dataFits
 carries-mask n j e = eqb-true _ _ (both-true {a = masksFit n j} {b = eqb (j .len) 0} e .1)
 
+-- modes 4 to 6: flag 0, no masks, 1 to 16 places
 pub carries-list : (n : ℕ) (j : Job) → dataFits n j aList ≡ true
     → (j .flag ≡ 0) × (j .user ≡ 0) × (j .effective ≡ 0) × (1 ≤ j .len) × (j .len ≤ placesPerJob)
 unfolding dataFits
@@ -257,7 +259,7 @@ module _ (n : ℕ) (j : Job) (new : ℕ) (l : n ≤ maskBits) (h : Formed n j) (
 
 -- ---- install
 
--- a known mode is 0 to 6, a known flag 0 to 2
+-- a known mode is 0 to 6
 pub mode-small : (m : ℕ) → modeKnown (modeOf m) ≡ true → m < 7
 unfolding modeKnown
 mode-small zero e = omega arith
@@ -269,6 +271,7 @@ mode-small (suc (suc (suc (suc (suc zero))))) e = omega arith
 mode-small (suc (suc (suc (suc (suc (suc zero)))))) e = omega arith
 mode-small (suc (suc (suc (suc (suc (suc (suc m))))))) e = absurd (false≢true e)
 
+-- a known flag is 0 to 2
 pub flag-small : (f : ℕ) → flagKnown (flagOf f) ≡ true → f < 3
 unfolding flagKnown
 flag-small zero e = omega arith

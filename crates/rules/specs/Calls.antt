@@ -1,10 +1,10 @@
 -- Document 01, "Refusal numbers": the five calls. For each, what it answers and what it leaves in every table, for all inputs.
-use Prim.Native.Nat.{ℕ, zero, suc, _+_}
+use Prim.Native.Nat.{ℕ, _+_}
 use mathlib.Core.Bool.{Bool, true, false, not, _&&_, _||_}
 use mathlib.Core.List.{List, [], _∷_}
 use mathlib.Core.Option.{Option, none, some}
 use lib.ListN.{length, getD, set}
-use lib.Dec.{leb, ltb, eqb}
+use lib.Dec.{ltb, eqb}
 use Rattle.rules.specs.Basics.{sum, between}
 use Rattle.rules.specs.Machine.{Machine, nodeCount, nodesOk, pagesOk, machineOk, pageTableOk, nodeOfPage, nodeOfCpu}
 use Rattle.rules.specs.Masks.{both, below, isNone}

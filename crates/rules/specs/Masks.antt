@@ -1,6 +1,6 @@
 -- Document 01, "Masks". Everything is over the number of bits w of a mask; the masks of the records have 64.
 use Prim.Native.Nat.{ℕ, zero, suc, _+_, _-_, _*_, _/_, _%_, _^_}
-use mathlib.Core.Bool.{Bool, true, false, _&&_, cond}
+use mathlib.Core.Bool.{Bool, _&&_, cond}
 use lib.Bits.{bitAnd}
 use lib.Dec.{eqb, ltb}
 

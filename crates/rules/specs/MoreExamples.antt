@@ -10,10 +10,10 @@ use lib.Dec.{T, eqb}
 use Rattle.rules.specs.Basics.{openBasics, all, from, same}
 use Rattle.rules.specs.Machine.{openMachine, Machine}
 use Rattle.rules.specs.Masks.{openMasks}
-use Rattle.rules.specs.Records.{openRecords, wellFormed, decode, encode, fresh}
+use Rattle.rules.specs.Records.{openRecords, wellFormed, decode, fresh}
 use Rattle.rules.specs.SearchOrder.{openSearchOrder, near}
 use Rattle.rules.specs.Calls.{openCalls, Answer, granted, released, done, refused, Decision, refuse, accept}
-use Rattle.rules.specs.Book.{openBook, Call, request, release, install, rebind, clear, answers, final}
+use Rattle.rules.specs.Book.{openBook, Call, request, release, install, rebind, clear, answers}
 use Rattle.rules.specs.Text.{openText, readText, writeText}
 use Rattle.rules.specs.Journal.{openJournal, journal}
 use Rattle.rules.specs.Examples.{machineA, start, nodes, page, setUp, sameAnswers}

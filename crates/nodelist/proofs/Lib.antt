@@ -1,0 +1,4 @@
+pub mod Bytewise
+pub mod FormLaws
+pub mod LineLaws
+pub mod WriteLaws

@@ -1,0 +1,94 @@
+-- What the writer answers and leaves in the output is what document 01 says.
+-- Assumes nothing.
+use mathlib.Core.Path.{_≡_, refl, sym, ap, ap₂, _∙_}
+use mathlib.Core.Bool.{true, false}
+use mathlib.Core.List.{List, [], _∷_, _++_}
+use Prim.Native.Nat.{ℕ, zero, suc, _-_, _≤_, _<_}
+use native.Mathlib.Omega.{arith}
+use lib.ListN.{length, take, drop, length-take, length-drop}
+use lib.Seq.{take-length}
+use borrow.Author.Tests.{le-leb, lt-leb}
+use Rattle.rules.specs.Machine.{nodesOk}
+use Rattle.rules.specs.Masks.{maskBits, below, has}
+use Rattle.rules.specs.Basics.{keep, from}
+use Rattle.rules.specs.Calls.{Decision, refuse, accept}
+use Rattle.rules.specs.Text.{Written, runs, textOf, writeDecision, writing, writeText}
+use Rattle.rules.proofs.Runs.{commas-line}
+use Rattle.nodelist.specs.Writer.{runsFrom, lineOf, textWritten}
+
+abbrev answered : Decision ℕ → List ℕ → Written
+answered d out = record { answer = d; output = out }
+
+-- ---- the text is the line past its first comma
+
+-- the text of a mask is its line without the first comma
+pub text-line : (m : ℕ) → textOf m ≡ drop 1 (lineOf m)
+unfolding textOf lineOf runsFrom
+text-line m = commas-line (runs (keep (has m) (from 0 maskBits)))
+
+-- so it is one byte shorter
+pub text-length : (m : ℕ) → length (textOf m) ≡ length (lineOf m) - 1
+text-length m = ap length (text-line m) ∙ length-drop 1 (lineOf m)
+
+take-tail : (k : ℕ) (l : List ℕ) → take k (drop 1 l) ≡ drop 1 (take (suc k) l)
+take-tail zero [] = refl
+take-tail (suc k) [] = refl
+take-tail k (x ∷ xs) = refl
+
+-- the part of a line from its second byte on is the text
+pub text-part : (m len : ℕ) (line : List ℕ) → 0 < len → take len line ≡ lineOf m → take (len - 1) (drop 1 line) ≡ textOf m
+text-part m len line l e =
+    let q : suc (len - 1) ≡ len = omega arith in
+    take-tail (len - 1) line ∙ ap (λ (k : ℕ). drop 1 (take k line)) q ∙ ap (drop 1) e ∙ sym (text-line m)
+
+empty-list : (l : List ℕ) → length l ≡ 0 → l ≡ []
+empty-list [] e = refl
+empty-list (x ∷ xs) e = absurd (omega arith)
+
+-- a line that gives its first len bytes has them
+pub long-enough : (len : ℕ) (line text : List ℕ) → len ≡ length text → take len line ≡ text → len ≤ length line
+long-enough len line text e t = omega (arith, length-take len line, ap length t)
+
+-- ---- the answers
+
+module _ (m : ℕ) (out : List ℕ) where
+  -- "11 output shorter than the text"
+  pub text-too-long : length out < length (textOf m) → textWritten m out ≡ answered (refuse 11) out
+  unfolding textWritten writing
+  text-too-long l = rw (lt-leb (length (textOf m)) (length out) l)
+
+  -- the text fits: it is written, and no byte past it changes
+  pub text-done : length (textOf m) ≤ length out → textWritten m out ≡ answered (accept (length (textOf m))) (textOf m ++ drop (length (textOf m)) out)
+  unfolding textWritten writing
+  text-done l = rw (le-leb (length (textOf m)) (length out) l)
+
+  -- the text is copied to the start of the output
+  pub text-copied : {size : ℕ} {src last : List ℕ} → length (textOf m) ≤ length out → src ≡ textOf m → size ≡ length src
+      → last ≡ take (length src) src ++ drop (length src) out → answered (accept size) last ≡ textWritten m out
+  text-copied {size} {src} {last} l e s c =
+      ap₂ (λ (k : ℕ) (t : List ℕ). answered (accept k) t) s (c ∙ ap (λ (t : List ℕ). t ++ drop (length src) out) (take-length src))
+      ∙ ap (λ (t : List ℕ). answered (accept (length t)) (t ++ drop (length t) out)) e
+      ∙ sym (text-done l)
+
+  -- an empty text fits everywhere
+  pub text-empty : length (lineOf m) ≡ 0 → textWritten m out ≡ answered (accept 0) out
+  text-empty l =
+      let z : length (textOf m) ≡ 0 = text-length m ∙ ap (λ (x : ℕ). x - 1) l in
+      text-done (omega arith)
+      ∙ ap₂ (λ (k : ℕ) (t : List ℕ). answered (accept k) (t ++ drop k out)) z (empty-list (textOf m) z)
+
+  module _ (n : ℕ) where
+    -- "N outside 1 to 64 is refusal 1, .. written bits at N or above 6, both tested first"
+    pub write-nodes-refused : nodesOk n ≡ false → writeText n m out ≡ answered (refuse 1) out
+    unfolding writeText writing writeDecision
+    write-nodes-refused e = rw e
+
+    -- bits at N or above
+    pub write-mask-refused : nodesOk n ≡ true → below n m ≡ false → writeText n m out ≡ answered (refuse 6) out
+    unfolding writeText writing writeDecision
+    write-mask-refused e f = rw (e, f)
+
+    -- else the text decides
+    pub write-text : nodesOk n ≡ true → below n m ≡ true → writeText n m out ≡ textWritten m out
+    unfolding writeText writing writeDecision textWritten
+    write-text e f = rw (e, f)

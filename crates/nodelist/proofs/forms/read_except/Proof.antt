@@ -1,0 +1,66 @@
+-- `read_except` meets its contract, by what the items past the mark give.
+-- Assumes nothing.
+use mathlib.Core.Option.{Option, some}
+use mathlib.Core.Path.{_≡_, sym, ap, subst, _∙_}
+use Prim.Native.Nat.{ℕ}
+use lib.ListN.{drop}
+use borrow.Author.Needs.{needs}
+use Rattle.nodelist.specs.Reader.{maskRead, itemsRead}
+use Rattle.nodelist.specs.Forms.{Below}
+use Rattle.nodelist.proofs.FormLaws.{items-below, past-mark}
+use Rattle.nodelist.proofs.forms.read_except.Statement.{statement}
+use Rattle.nodelist.proofs.forms.read_except.Tie as tie
+
+sub-read-items : tie.Need-sub-read-items
+sub-read-items c = search needs
+
+part-read-items-start : tie.Need-part-read-items-start
+part-read-items-start c = search needs
+
+part-read-items-end : tie.Need-part-read-items-end
+part-read-items-end c = search needs
+
+read-items-requires : tie.Need-read-items-requires
+read-items-requires c κs = search needs
+
+-- the items past the mark
+told : (c : tie.After-read-items) → let a = c .before .before .before .args in maskRead (c .read-items .result) ≡ itemsRead (a .nodes) (drop 1 (a .text .now))
+told c =
+    let a = c .before .before .before .args in
+    c .read-items .ensures ∙ ap (itemsRead (a .nodes)) (past-mark (a .text .now))
+
+enum-known-items : tie.Need-enum-known-items
+enum-known-items c = search needs
+
+others-requires : tie.Need-others-requires
+others-requires c κs =
+    let s = c .before .before .before .before .before .before in (
+      s .pre .1,
+      subst (Below (s .args .nodes)) (sym (told (c .before .before .before)) ∙ ap maskRead (c .before .items .given .1))
+          (items-below (s .args .nodes) (drop 1 (s .args .text .now)) (s .pre .1)),
+    )
+
+enum-told : tie.Need-enum-told
+enum-told c = search needs
+
+returns : tie.Need-returns
+returns c =
+    rw (← told (c .before .before .before .before), c .before .before .items .given .1)
+    (ap {B = Option ℕ} some (c .others .ensures))
+
+returns-2 : tie.Need-returns-2
+returns-2 c = rw (← told (c .before .before), c .enum-told .given .1)
+
+pub read-except-spec : {M : Type 1} → statement M
+read-except-spec =
+    tie.close
+    (tie.spec
+    sub-read-items
+    part-read-items-start
+    part-read-items-end
+    read-items-requires
+    enum-known-items
+    others-requires
+    enum-told
+    returns
+    returns-2)

@@ -1,0 +1,79 @@
+-- `read_form` meets its contract, form by form.
+-- Assumes nothing.
+use lib.ListN.{drop}
+use mathlib.Core.Path.{sym, ap, _∙_}
+use native.Mathlib.Nat.{pos-of-ne-zero}
+use borrow.Author.Needs.{needs}
+use Rattle.rules.specs.Text.{formOk, formMask}
+use Rattle.nodelist.specs.Forms.{formRead}
+use Rattle.nodelist.proofs.FormLaws.{form-none, form-all, form-except, form-ranks, form-items, read-plain, read-except, read-ranks}
+use Rattle.nodelist.proofs.forms.read_form.Statement.{statement}
+use Rattle.nodelist.proofs.forms.read_form.Tie as tie
+
+returns : tie.Need-returns
+unfolding formRead formOk formMask
+returns c = rw (form-none (c .before .before .args .text .now) (c .if1 .taken))
+
+is-all-requires : tie.Need-is-all-requires
+is-all-requires c κs = search needs
+
+returns-2 : tie.Need-returns-2
+unfolding formRead formOk formMask
+returns-2 c = rw (form-all (c .before .before .before .before .args .text .now) (sym (c .before .is-all .ensures) ∙ c .if2 .taken))
+
+shared-slice-read-mark : tie.Need-shared-slice-read-mark
+shared-slice-read-mark c = search needs
+
+read-except-requires : tie.Need-read-except-requires
+read-except-requires c κs = search needs
+
+returns-3 : tie.Need-returns-3
+returns-3 c =
+    let t = c .before .before .before in
+    let s = t .before .before .before .before in
+    let a = s .args in
+    c .read-except .ensures
+    ∙ read-except (a .nodes) (a .allowed .0) (drop 1 (a .text .now)) (s .pre)
+    ∙ ap (formRead (a .nodes) (a .allowed .0))
+    (sym (form-except (a .text .now) (pos-of-ne-zero (t .before .before .if1 .left)) (sym (t .before .is-all .ensures) ∙ t .if2 .left) (c .before .if3 .taken)))
+
+read-ranks-requires : tie.Need-read-ranks-requires
+read-ranks-requires c κs = search needs
+
+returns-4 : tie.Need-returns-4
+returns-4 c =
+    let t = c .before .before .before .before in
+    let s = t .before .before .before .before in
+    let a = s .args in
+    c .read-ranks .ensures
+    ∙ read-ranks (a .nodes) (a .allowed .0) (drop 1 (a .text .now)) (s .pre)
+    ∙ ap (formRead (a .nodes) (a .allowed .0))
+    (sym (form-ranks (a .text .now) (pos-of-ne-zero (t .before .before .if1 .left)) (sym (t .before .is-all .ensures) ∙ t .if2 .left) (c .before .if4 .taken)))
+
+read-items-requires : tie.Need-read-items-requires
+read-items-requires c κs = search needs
+
+returns-5 : tie.Need-returns-5
+returns-5 c =
+    let t = c .before .before .before .before in
+    let s = t .before .before .before .before in
+    let a = s .args in
+    c .read-items .ensures
+    ∙ read-plain (a .nodes) (a .allowed .0) (a .text .now) (s .pre)
+    ∙ ap (formRead (a .nodes) (a .allowed .0))
+    (sym (form-items (a .text .now) (pos-of-ne-zero (t .before .before .if1 .left)) (sym (t .before .is-all .ensures) ∙ t .if2 .left) (c .before .before .if3 .left) (c .before .if4 .left)))
+
+pub read-form-spec : {M : Type 1} → statement M
+read-form-spec =
+    tie.close
+    (tie.spec
+    returns
+    is-all-requires
+    returns-2
+    shared-slice-read-mark
+    read-except-requires
+    returns-3
+    read-ranks-requires
+    returns-4
+    read-items-requires
+    returns-5)

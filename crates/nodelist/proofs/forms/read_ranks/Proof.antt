@@ -1,0 +1,71 @@
+-- `read_ranks` meets its contract, by what the items past the mark give.
+-- Assumes nothing.
+use mathlib.Core.Option.{Option, some}
+use mathlib.Core.Path.{_≡_, ap, ap₂, _∙_}
+use Prim.Native.Nat.{ℕ}
+use lib.ListN.{drop}
+use native.Mathlib.Omega.{arith}
+use borrow.Author.Needs.{needs}
+use Rattle.rules.specs.Masks.{maskBits, size}
+use Rattle.rules.proofs.Masks.{rank-le}
+use Rattle.nodelist.specs.Reader.{maskRead, itemsRead}
+use Rattle.nodelist.proofs.FormLaws.{past-mark}
+use Rattle.nodelist.proofs.forms.read_ranks.Statement.{statement}
+use Rattle.nodelist.proofs.forms.read_ranks.Tie as tie
+
+sub-read-items : tie.Need-sub-read-items
+sub-read-items c = search needs
+
+part-read-items-start : tie.Need-part-read-items-start
+part-read-items-start c = search needs
+
+part-read-items-end : tie.Need-part-read-items-end
+part-read-items-end c = search needs
+
+size-requires : tie.Need-size-requires
+size-requires c κs = search needs
+
+cast-read-items : tie.Need-cast-read-items
+cast-read-items c = search needs
+
+read-items-requires : tie.Need-read-items-requires
+read-items-requires c κs = omega (arith, c .size .ensures, rank-le (c .before .before .before .args .allowed .0) 64)
+
+-- the items past the mark
+told : (c : tie.After-read-items) → let a = c .before .before .before .before .args in maskRead (c .read-items .result) ≡ itemsRead (size maskBits (a .allowed .0)) (drop 1 (a .text .now))
+told c =
+    let a = c .before .before .before .before .args in
+    c .read-items .ensures ∙ ap₂ itemsRead (c .before .size .ensures) (past-mark (a .text .now))
+
+enum-known-items : tie.Need-enum-known-items
+enum-known-items c = search needs
+
+ranked-requires : tie.Need-ranked-requires
+ranked-requires c κs = search needs
+
+enum-told : tie.Need-enum-told
+enum-told c = search needs
+
+returns : tie.Need-returns
+returns c =
+    rw (← told (c .before .before .before .before), c .before .before .items .given .1)
+    (ap {B = Option ℕ} some (c .ranked .ensures))
+
+returns-2 : tie.Need-returns-2
+returns-2 c = rw (← told (c .before .before), c .enum-told .given .1)
+
+pub read-ranks-spec : {M : Type 1} → statement M
+read-ranks-spec =
+    tie.close
+    (tie.spec
+    sub-read-items
+    part-read-items-start
+    part-read-items-end
+    size-requires
+    cast-read-items
+    read-items-requires
+    enum-known-items
+    ranked-requires
+    enum-told
+    returns
+    returns-2)

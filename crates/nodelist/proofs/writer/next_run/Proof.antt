@@ -1,0 +1,60 @@
+-- `next_run` meets its contract: the trailing zeros lead to the run, the trailing ones are its nodes.
+-- Assumes nothing.
+use Prim.Native.Nat.{ℕ, _+_, _-_, _/_, _^_, _<_}
+use native.Mathlib.Nat.{pos-of-ne-zero}
+use native.Mathlib.Omega.{arith}
+use lib.Count.{trailingZeros}
+use borrow.Author.Needs.{needs}
+use Rattle.rules.specs.Masks.{allNodes}
+use Rattle.rules.proofs.Masks.{trailing-from}
+use Rattle.rules.proofs.Runs.{FirstRun, first-run}
+use Rattle.nodelist.proofs.LineLaws.{no-run-from, run-from}
+use Rattle.nodelist.proofs.writer.next_run.Statement.{statement}
+use Rattle.nodelist.proofs.writer.next_run.Tie as tie
+
+shr-above : tie.Need-shr-above
+shr-above c = search needs
+
+returns : tie.Need-returns
+returns c = let a = c .before .before .args in no-run-from (a .mask .0) (a .at) (c .if1 .taken)
+
+-- where the run starts, and how many nodes it has
+abbrev low-of : tie.Else1 → ℕ
+low-of c = let a = c .before .before .args in a .at + trailingZeros 64 (a .mask .0 / 2 ^ a .at)
+
+abbrev ones-of : tie.Else1 → ℕ
+ones-of c = trailingZeros 64 (allNodes 64 - c .before .before .args .mask .0 / 2 ^ low-of c)
+
+low-small : (c : tie.Else1) → low-of c < 64
+low-small c = let a = c .before .before .args in trailing-from 64 (a .mask .0) (a .at) (omega arith) (pos-of-ne-zero (c .if1 .left)) .small
+
+found : (c : tie.Else1) → let a = c .before .before .args in FirstRun 64 (a .mask .0) (a .at) (low-of c) (ones-of c)
+found c = let a = c .before .before .args in first-run 64 (a .mask .0) (a .at) (omega arith) (pos-of-ne-zero (c .if1 .left))
+
+cast-low : tie.Need-cast-low
+cast-low c = omega (arith, low-small c)
+
+add-low : tie.Need-add-low
+add-low c = omega (arith, low-small c)
+
+shr-ones : tie.Need-shr-ones
+shr-ones c = low-small (c .before)
+
+cast-ones : tie.Need-cast-ones
+cast-ones c = omega (arith, found (c .before) .within)
+
+add-t9 : tie.Need-add-t9
+add-t9 c = omega (arith, found (c .before) .within)
+
+sub-t12 : tie.Need-sub-t12
+sub-t12 c = omega (arith, found (c .before) .some)
+
+returns-2 : tie.Need-returns-2
+returns-2 c =
+    let a = c .before .before .before .args in
+    run-from (a .mask .0) (a .at) (low-of (c .before)) (ones-of (c .before)) (omega arith) (found (c .before))
+
+pub next-run-spec : {M : Type 1} → statement M
+next-run-spec =
+    tie.close
+    (tie.spec shr-above returns cast-low add-low shr-ones cast-ones add-t9 sub-t12 returns-2)

@@ -1,0 +1,71 @@
+-- `write_text` meets its contract: the line past its first comma is copied.
+-- Assumes nothing.
+use mathlib.Core.Path.{sym, _∙_}
+use native.Mathlib.Nat.{pos-of-ne-zero}
+use native.Mathlib.Omega.{arith}
+use borrow.Author.Needs.{needs}
+use Rattle.nodelist.specs.Writer.{lineOf}
+use Rattle.nodelist.proofs.WriteLaws.{text-length, text-part, long-enough, text-empty, text-too-long, text-copied}
+use Rattle.nodelist.proofs.writer.write_text.Statement.{statement}
+use Rattle.nodelist.proofs.writer.write_text.Tie as tie
+
+put-runs-requires : tie.Need-put-runs-requires
+put-runs-requires c κs = search needs
+
+returns : tie.Need-returns
+returns c =
+    let a = c .before .before .before .before .args in
+    sym (text-empty (a .mask .0) (a .out .now) (sym (c .before .put-runs .ensures .0) ∙ c .if1 .taken))
+
+sub-if2 : tie.Need-sub-if2
+sub-if2 c = search needs
+
+returns-2 : tie.Need-returns-2
+returns-2 c =
+    let p = c .before .before in
+    let a = p .before .before .before .args in
+    sym (text-too-long (a .mask .0) (a .out .now) (omega (arith, c .if2 .taken, p .put-runs .ensures .0, text-length (a .mask .0))))
+
+sub-copy : tie.Need-sub-copy
+sub-copy c = search needs
+
+part-copy-start : tie.Need-part-copy-start
+part-copy-start c = search needs
+
+part-copy-end : tie.Need-part-copy-end
+part-copy-end c =
+    let p = c .before .before .before in
+    long-enough _ _ (lineOf (p .before .before .before .args .mask .0)) (p .put-runs .ensures .0) (p .put-runs .ensures .1)
+
+copy-requires : tie.Need-copy-requires
+copy-requires c κs = search needs
+
+same-length : tie.Need-same-length
+same-length c = search needs
+
+returns-3 : tie.Need-returns-3
+returns-3 c =
+    let d = c .before .before .before .before .before .before in
+    let p = d .before .before in
+    let a = p .before .before .before .args in
+    let k = c .before .before .copy in
+    text-copied (a .mask .0) (a .out .now)
+    (omega (arith, d .if2 .left, p .put-runs .ensures .0, text-length (a .mask .0)))
+    (text-part (a .mask .0) (p .put-runs .result) (p .put-runs .last .0) (pos-of-ne-zero (d .before .if1 .left)) (p .put-runs .ensures .1))
+    (k .ensures .0)
+    (k .ensures .1)
+
+pub write-text-spec : {M : Type 1} → statement M
+write-text-spec =
+    tie.close
+    (tie.spec
+    put-runs-requires
+    returns
+    sub-if2
+    returns-2
+    sub-copy
+    part-copy-start
+    part-copy-end
+    copy-requires
+    same-length
+    returns-3)

@@ -1,0 +1,4 @@
+pub mod Reader
+pub mod Forms
+pub mod Writer
+pub mod Answers

@@ -1,0 +1,41 @@
+-- The writer of node-list text: a line of all runs, each with a comma before it. The text is what follows the first comma.
+use mathlib.Core.Path.{_≡_}
+use Prim.Native.Nat.{ℕ, _+_, _-_, _≤_, _<_}
+use mathlib.Core.List.{List, [], _∷_}
+use lib.ListN.{length}
+use lib.Dec.{leb}
+use Rattle.rules.specs.Basics.{keep, each, from}
+use Rattle.rules.specs.Masks.{maskBits, has}
+use Rattle.rules.specs.Calls.{unless, accept}
+use Rattle.rules.specs.Text.{comma, Run, runs, runText, textOf, Written, writing}
+use Rattle.nodelist.specs.declared.writer.NextRun.{NextRun}
+use Rattle.nodelist.specs.declared.writer.NextRun.the-variants.{Run as Span, Nothing}
+
+-- the bytes that a line may take: three for each node
+abbrev pub lineBytes : ℕ
+lineBytes = 192
+
+-- the run from low to high
+abbrev pub runOf : ℕ → ℕ → Run
+runOf low high = record { low = low; high = high }
+
+-- the runs of the nodes from a on
+unfoldable pub runsFrom : ℕ → ℕ → List Run
+runsFrom m a = runs (keep (has m) (from a (maskBits - a)))
+
+-- what is found is the first run from a on, and the runs past it follow
+abbrev pub FirstFrom : ℕ → ℕ → NextRun → Type 0
+FirstFrom m a Nothing = runsFrom m a ≡ []
+FirstFrom m a (Span low high) = (a ≤ low) × (low ≤ high) × (high < maskBits) × (runsFrom m a ≡ runOf low high ∷ runsFrom m (high + 1))
+
+-- a run with a comma before it
+abbrev pub lineRun : Run → List ℕ
+lineRun r = comma ∷ runText r
+
+-- all runs of a mask
+unfoldable pub lineOf : ℕ → List ℕ
+lineOf m = each lineRun (runsFrom m 0)
+
+-- "11 output shorter than the text"; "It changes no output byte past the text"
+unfoldable pub textWritten : ℕ → List ℕ → Written
+textWritten m out = writing m out (unless (leb (length (textOf m)) (length out)) 11 (accept (length (textOf m))))

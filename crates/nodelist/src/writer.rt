@@ -1,0 +1,102 @@
+// Writes the text of a mask: ascending maximal runs.
+
+ghost use mathlib.Core.Path.{_≡_};
+ghost use Prim.Native.Nat.{_+_, _<_, _≤_};
+ghost use lib.ListN.{length, take};
+ghost use lib.Seq.{sets};
+ghost use Rattle.rules.specs.Masks.{maskBits};
+ghost use Rattle.rules.specs.Text.{decimal};
+ghost use Rattle.nodelist.specs.Writer.{FirstFrom, runOf, lineRun, lineOf, lineBytes, textWritten};
+ghost use Rattle.nodelist.specs.Answers.{written};
+use crate::Writing;
+use nodemask::Mask;
+use rules::Refusal;
+
+// A run of nodes from low to high, if there is one.
+pub enum NextRun {
+    Run(usize, usize),
+    Nothing,
+}
+
+// The first run of a mask from node `at` on.
+fn next_run(mask: Mask, at: usize) -> NextRun
+    requires { ⌜ at < maskBits ⌝ }
+    ensures { λ r. ⌜ FirstFrom (mask .0) at r ⌝ }
+{
+    let above = mask.0 >> at;
+    if above == 0 {
+        return NextRun::Nothing;
+    }
+    let low = at + (u64::trailing_zeros(above) as usize);
+    let ones = u64::trailing_zeros(!(mask.0 >> low)) as usize;
+    NextRun::Run(low, low + ones - 1)
+}
+
+// A number put into a line at a place: the place after it.
+fn put_number(line: &mut [u8; 192], at: usize, n: usize) -> usize
+    requires { ⌜ (n < maskBits) × (at + length (decimal n) ≤ lineBytes) ⌝ }
+    ensures end { λ r. ⌜ r ≡ at + length (decimal n) ⌝ }
+    ensures put { λ _. ⌜ now (line .exit) ≡ sets (now (line .entry)) at (decimal n) ⌝ }
+{
+    if n < 10 {
+        line[at] = b'0' + (n as u8);
+        return at + 1;
+    }
+    line[at] = b'0' + ((n / 10) as u8);
+    line[at + 1] = b'0' + ((n % 10) as u8);
+    at + 2
+}
+
+// A comma and a run put into a line at a place: the place after them.
+fn put_run(line: &mut [u8; 192], at: usize, low: usize, high: usize) -> usize
+    requires { ⌜ (low ≤ high) × (high < maskBits) × (at + length (lineRun (runOf low high)) ≤ lineBytes) ⌝ }
+    ensures end { λ r. ⌜ r ≡ at + length (lineRun (runOf low high)) ⌝ }
+    ensures put { λ _. ⌜ now (line .exit) ≡ sets (now (line .entry)) at (lineRun (runOf low high)) ⌝ }
+{
+    line[at] = b',';
+    let mid = put_number(line, at + 1, low);
+    if low == high {
+        return mid;
+    }
+    line[mid] = b'-';
+    put_number(line, mid + 1, high)
+}
+
+// All runs of a mask, each with a comma before it, put into a line: its length.
+fn put_runs(line: &mut [u8; 192], mask: Mask) -> usize
+    requires { ⌜ length (now line) ≡ lineBytes ⌝ }
+    ensures len { λ r. ⌜ r ≡ length (lineOf (mask .0)) ⌝ }
+    ensures text { λ r. ⌜ take r (now (line .exit)) ≡ lineOf (mask .0) ⌝ }
+{
+    let mut len = 0;
+    let mut at = 0;
+    while at < 64 {
+        let run = next_run(mask, at);
+        match run {
+            NextRun::Run(low, high) => {
+                len = put_run(line, len, low, high);
+                at = high + 1;
+            }
+            NextRun::Nothing => {
+                return len;
+            }
+        }
+    }
+    len
+}
+
+// The text of a mask put at the start of the output, if it fits there.
+pub fn write_text(mask: Mask, out: &mut [u8]) -> Writing
+    ensures { λ r. ⌜ written r (now (out .exit)) ≡ textWritten (mask .0) (now (out .entry)) ⌝ }
+{
+    let mut line = [0u8; 192];
+    let len = put_runs(&mut line, mask);
+    if len == 0 {
+        return Writing::Text(0);
+    }
+    if len - 1 > out.len() {
+        return Writing::Refused(Refusal::OutputTooShort);
+    }
+    let size = bytes::copy(&line[1..len], out);
+    Writing::Text(size)
+}

@@ -1,0 +1,5 @@
+pub mod Shifts
+pub mod Numbers
+pub mod Decoded
+pub mod Stored
+pub mod Ways

@@ -1,0 +1,71 @@
+// The words of a record: the fields of word 0 by shifts and masks, and sixteen places in two words.
+
+ghost use mathlib.Core.Path.{_≡_};
+ghost use mathlib.Core.List.{_++_};
+ghost use Prim.Native.Nat.{_+_, _*_, _/_, _%_, _^_, _<_, _≤_};
+ghost use lib.ListN.{length, take, drop, replicate};
+ghost use Rattle.rules.specs.Records.{placesPerJob, bytesOf, fromBytes};
+
+// Byte k of a word, lowest first.
+pub fn byte(word: u64, k: usize) -> u8
+    requires { ⌜ k < 8 ⌝ }
+    ensures { λ r. ⌜ r ≡ word / 2 ^ (8 * k) % 256 ⌝ }
+{
+    ((word >> (8 * k)) & 255) as u8
+}
+
+// Word 0 of a record whose unused bits are zero.
+pub fn head(mode: u8, flag: u8, len: u8, cursor: u8) -> u64
+    ensures { λ r. ⌜ r ≡ mode + flag * 2 ^ 8 + len * 2 ^ 16 + cursor * 2 ^ 24 ⌝ }
+{
+    (mode as u64) | ((flag as u64) << 8) | ((len as u64) << 16) | ((cursor as u64) << 24)
+}
+
+// Word 0 with another cursor.
+pub fn with_cursor(word: u64, cursor: u8) -> u64
+    ensures { λ r. ⌜ r ≡ word % 2 ^ 24 + cursor * 2 ^ 24 + word / 2 ^ 32 * 2 ^ 32 ⌝ }
+{
+    (word & 0xff_ffff) | ((cursor as u64) << 24) | ((word >> 32) << 32)
+}
+
+// The sixteen places of words 4 and 5.
+pub fn unpack(low: u64, high: u64) -> [u8; 16]
+    ensures { λ r. ⌜ r ≡ bytesOf 8 low ++ bytesOf 8 high ⌝ }
+{
+    let mut out = [0u8; 16];
+    let mut i: usize = 0;
+    while i < 8 {
+        out[i] = byte(low, i);
+        out[i + 8] = byte(high, i);
+        i += 1;
+    }
+    out
+}
+
+// Eight of the places as a word.
+pub fn pack(places: [u8; 16], from: usize) -> u64
+    requires { ⌜ from ≤ 8 ⌝ }
+    ensures { λ r. ⌜ r ≡ fromBytes (take 8 (drop from places)) ⌝ }
+{
+    let mut word: u64 = 0;
+    let mut i: usize = 8;
+    while 0 < i {
+        i -= 1;
+        word = (word << 8) | (places[from + i] as u64);
+    }
+    word
+}
+
+// A list of places, filled up with zeros.
+pub fn padded(places: &[u8]) -> [u8; 16]
+    requires { ⌜ length (now places) ≤ placesPerJob ⌝ }
+    ensures { λ r. ⌜ r ≡ take placesPerJob (now (places .entry) ++ replicate placesPerJob 0) ⌝ }
+{
+    let mut out = [0u8; 16];
+    let mut i: usize = 0;
+    while i < places.len() {
+        out[i] = places[i];
+        i += 1;
+    }
+    out
+}
