@@ -1,0 +1,4 @@
+pub mod Numbers
+pub mod CallRecord
+pub mod MachineRecord
+pub mod Run

@@ -1,0 +1,173 @@
+-- The laws of the machine record: its page counts, its tests, and that it goes by its own bytes.
+-- Assumes nothing.
+use Prim.Native.Nat.{ℕ, zero, suc, _+_, _*_, _≤_, _<_}
+use mathlib.Core.Path.{_≡_, refl, ap, ap₂, _∙_, sym}
+use mathlib.Core.Bool.{Bool, true, false, _&&_}
+use mathlib.Core.List.{List, [], _∷_, _++_, map}
+use native.Mathlib.Nat.{add-zero, zero-add, mul-le-mul}
+use native.Mathlib.Numerals.{add-one}
+use native.Mathlib.Omega.{arith}
+use borrow.Author.Tests.{leb-true}
+use lib.Dec.{leb, eqb}
+use lib.ListN.{length, take, set}
+use lib.Seq.{take-suc-set, getD-take}
+use Rattle.rules.specs.Basics.{from, sum, between}
+use Rattle.rules.specs.Machine.{Machine, machineOk, pageTableOk}
+use Rattle.rules.specs.Calls.{unless, accept}
+use Rattle.rules.specs.Journal.{byteAt, number, marked, headSize, headOk, countsOk, machineSize, machineIn, journalPages}
+use Rattle.machine.specs.Tables.{machineOf}
+use Rattle.journal.specs.Enums.{verdict}
+use Rattle.journal.proofs.Numbers.{long-take, part-take, number-take}
+use Rattle.rules.proofs.Lists.{both-true}
+
+-- "the six head bytes": a head that is undamaged has them
+pub head-long : (bs : List ℕ) → headOk bs ≡ true → headSize ≤ length bs
+unfolding headOk
+head-long bs h =
+    let long = leb headSize (length bs) in
+    let kind = both-true {a = long && marked bs && eqb (byteAt bs 2) 0} h .0 in
+    leb-true headSize (length bs) (both-true {a = long} (both-true {a = long && marked bs} kind .0) .0)
+
+-- a whole machine record has its six head bytes
+pub head-in : (bs : List ℕ) → machineSize bs ≤ length bs → headSize ≤ length bs
+unfolding machineSize
+head-in bs h = omega arith
+
+-- "N (1 to 16)"
+pub nodes-most : (bs : List ℕ) → countsOk bs ≡ true → byteAt bs 3 ≤ 16
+unfolding countsOk
+nodes-most bs h = leb-true (byteAt bs 3) 16 (both-true {a = leb 1 (byteAt bs 3)} (both-true {a = between 1 16 (byteAt bs 3)} h .0) .1)
+
+-- N x N distances are few
+pub square-most : (n : ℕ) → n < 256 → n * n ≤ 65025
+square-most n h = mul-le-mul {n₂ = 255} {m₂ = 255} (omega arith) (omega arith)
+
+-- the values at one number more
+map-from-suc : (f : ℕ → ℕ) (a k : ℕ) → map f (from a (suc k)) ≡ map f (from a k) ++ (f (a + k) ∷ [])
+unfolding from
+map-from-suc f a zero = ap (λ (x : ℕ). f x ∷ []) (sym (add-zero a))
+map-from-suc f a (suc k) =
+    ap (λ (l : List ℕ). f a ∷ l) (map-from-suc f (suc a) k ∙ ap (λ (j : ℕ). map f (from (suc a) k) ++ (f j ∷ [])) (omega arith))
+
+-- "N 16-bit page counts": count i
+abbrev pub countAt : List ℕ → ℕ → ℕ
+countAt bs i = number (headSize + 2 * i) 2 bs
+
+-- one count more is read
+pub counts-step : (bs counts : List ℕ) (i : ℕ) {v : ℕ} → i < length counts → v ≡ countAt bs i → take i counts ≡ map (countAt bs) (from 0 i)
+    → take (i + 1) (set counts i v) ≡ map (countAt bs) (from 0 (i + 1))
+counts-step bs counts i {v} h e t =
+    rw (add-one i)
+    (take-suc-set counts i v h ∙ ap₂ (λ (l : List ℕ) (x : ℕ). l ++ (x ∷ [])) t e ∙ sym (map-from-suc (countAt bs) 0 i ∙ rw (zero-add i)))
+
+-- "the other rules": of the tables that are read out of the record
+pub machine-tested : (bs : List ℕ) {counts cpus distances : List ℕ}
+    → counts ≡ machineIn bs .pageCounts → cpus ≡ machineIn bs .cpuNodes → distances ≡ machineIn bs .distances
+    → (machineOk (machineOf counts cpus distances) && pageTableOk counts journalPages)
+    ≡ (machineOk (machineIn bs) && leb (sum (machineIn bs .pageCounts)) journalPages)
+unfolding pageTableOk
+machine-tested bs p q r = rw (p, q, r)
+
+-- What a good machine record holds, k bytes of it.
+pub record Opened (bs : List ℕ) (k : ℕ) : Type 0 where
+  pub size : k ≡ machineSize bs
+  pub counted : countsOk bs ≡ true
+  pub whole : machineSize bs ≤ length bs
+  pub in-order : machineOk (machineIn bs) ≡ true
+  pub few-pages : sum (machineIn bs .pageCounts) ≤ journalPages
+
+-- a machine record that is accepted is good
+pub opened : (bs : List ℕ) {k : ℕ} → verdict bs ≡ accept k → Opened bs k
+unfolding verdict
+opened bs {k} h = go (headOk bs) (countsOk bs) (leb size (length bs)) (machineOk m && few) refl refl refl h
+  where
+    size : ℕ
+    size = machineSize bs
+
+    m : Machine
+    m = machineIn bs
+
+    few : Bool
+    few = leb (sum (m .pageCounts)) journalPages
+
+    go : (a b c d : Bool) → countsOk bs ≡ b → leb size (length bs) ≡ c → (machineOk m && few) ≡ d
+        → unless a 13 (unless b 1 (unless c 13 (unless d 1 (accept size)))) ≡ accept k → Opened bs k
+    go true true true true eb ec ed h =
+        let t = both-true {a = machineOk m} ed in
+        record { size = cc; counted = eb; whole = leb-true size (length bs) ec; in-order = t .0; few-pages = leb-true (sum (m .pageCounts)) journalPages (t .1) }
+    go true true true false eb ec ed h = absurd (let z : _≡_ {A = ℕ} 0 1 = cc in omega arith)
+    go true true false d eb ec ed h = absurd (let z : _≡_ {A = ℕ} 0 1 = cc in omega arith)
+    go true false c d eb ec ed h = absurd (let z : _≡_ {A = ℕ} 0 1 = cc in omega arith)
+    go false b c d eb ec ed h = absurd (let z : _≡_ {A = ℕ} 0 1 = cc in omega arith)
+
+-- ---- a machine record goes by its own bytes, at most 358
+
+-- "N (1 to 16), CPU count (1 to 64)": so many bytes at most
+pub size-most : (bs : List ℕ) → countsOk bs ≡ true → machineSize bs ≤ 358
+unfolding machineSize countsOk
+size-most bs h =
+    let n = byteAt bs 3 in
+    let few : n ≤ 16 = nodes-most bs h in
+    let cpus : byteAt bs 4 ≤ 64 = leb-true (byteAt bs 4) 64 (both-true {a = leb 1 (byteAt bs 4)} (both-true {a = between 1 16 n} h .1) .1) in
+    let square : n * n ≤ 256 = mul-le-mul {n₂ = 16} {m₂ = 16} few few in
+    omega arith
+
+-- values that are the same at each number
+map-from-same : (f g : ℕ → ℕ) (a k : ℕ) → ((i : ℕ) → i < a + k → f i ≡ g i) → map f (from a k) ≡ map g (from a k)
+unfolding from
+map-from-same f g a zero h = refl
+map-from-same f g a (suc k) h = ap₂ (λ (x : ℕ) (xs : List ℕ). x ∷ xs) (h a (omega arith)) (map-from-same f g (suc a) k (λ i l. h i (omega arith)))
+
+module _ (w : ℕ) (bs : List ℕ) (enough : 358 ≤ w) where
+  byte-alone : (i : ℕ) → i < headSize → byteAt (take w bs) i ≡ byteAt bs i
+  byte-alone i h = getD-take w bs i 0 (omega arith)
+
+  -- the six head bytes
+  pub head-alone : headOk (take w bs) ≡ headOk bs
+  unfolding headOk marked
+  head-alone =
+      rw (
+        long-take headSize w bs (omega arith),
+        byte-alone 0 (omega arith),
+        byte-alone 1 (omega arith),
+        byte-alone 2 (omega arith),
+        byte-alone 5 (omega arith),
+      )
+
+  -- N and CPU count
+  pub counts-alone : countsOk (take w bs) ≡ countsOk bs
+  unfolding countsOk
+  counts-alone = rw (byte-alone 3 (omega arith), byte-alone 4 (omega arith))
+
+  -- the size
+  pub size-alone : machineSize (take w bs) ≡ machineSize bs
+  unfolding machineSize
+  size-alone = rw (byte-alone 3 (omega arith), byte-alone 4 (omega arith))
+
+  -- the machine
+  pub machine-alone : countsOk bs ≡ true → machineIn (take w bs) ≡ machineIn bs
+  unfolding machineIn machineSize
+  machine-alone h =
+      let n = byteAt bs 3 in
+      let k = byteAt bs 4 in
+      let fits : machineSize bs ≤ 358 = size-most bs h in
+      rw (
+        byte-alone 3 (omega arith),
+        byte-alone 4 (omega arith),
+        part-take w (headSize + 2 * n) k bs (omega arith),
+        part-take w (headSize + 2 * n + k) (n * n) bs (omega arith),
+        map-from-same (countAt (take w bs)) (countAt bs) 0 n (λ i l. number-take w (headSize + 2 * i) 2 bs (omega arith)),
+      )
+
+  -- the verdict
+  pub verdict-alone : verdict (take w bs) ≡ verdict bs
+  unfolding verdict
+  verdict-alone = rw (head-alone, counts-alone, size-alone) (go (countsOk bs) refl)
+    where
+      go : (ok : Bool) → countsOk bs ≡ ok
+          → unless (headOk bs) 13 (unless ok 1 (unless (leb (machineSize bs) (length (take w bs))) 13
+          (unless (machineOk (machineIn (take w bs)) && leb (sum (machineIn (take w bs) .pageCounts)) journalPages) 1 (accept (machineSize bs)))))
+          ≡ unless (headOk bs) 13 (unless ok 1 (unless (leb (machineSize bs) (length bs)) 13
+          (unless (machineOk (machineIn bs) && leb (sum (machineIn bs .pageCounts)) journalPages) 1 (accept (machineSize bs)))))
+      go true e = rw (long-take (machineSize bs) w bs (omega (arith, size-most bs e)), machine-alone e)
+      go false e = refl

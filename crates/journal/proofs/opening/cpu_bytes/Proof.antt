@@ -1,0 +1,52 @@
+-- `cpu_bytes` is the part of the bytes after the page counts.
+-- Assumes nothing.
+use native.Mathlib.Nat.{add-sub-cancel-left}
+use native.Mathlib.Omega.{arith}
+use Rattle.rules.specs.Journal.{part, machineSize, machineIn}
+use Rattle.journal.proofs.MachineRecord.{head-in}
+use borrow.Author.Needs.{needs}
+use Rattle.journal.proofs.opening.cpu_bytes.Statement.{statement}
+use Rattle.journal.proofs.opening.cpu_bytes.Tie as tie
+
+byte-at-requires : tie.Need-byte-at-requires
+byte-at-requires c κs = omega (arith, head-in (c .before .args .bytes .now) (c .before .pre))
+
+mul-start : tie.Need-mul-start
+mul-start c = search needs
+
+add-start : tie.Need-add-start
+add-start c = search needs
+
+byte-at-requires-2 : tie.Need-byte-at-requires-2
+byte-at-requires-2 c κs = omega (arith, head-in (c .before .before .args .bytes .now) (c .before .before .pre))
+
+add-end : tie.Need-add-end
+add-end c = search needs
+
+sub-result : tie.Need-sub-result
+sub-result c = search needs
+
+part-result-start : tie.Need-part-result-start
+part-result-start c = search needs
+
+part-result-end : tie.Need-part-result-end
+unfolding machineSize
+part-result-end c = omega arith
+
+returns : tie.Need-returns
+unfolding machineIn part
+returns c = rw (add-sub-cancel-left, c .before .before .byte-at .ensures .0, c .before .byte-at2 .ensures .0)
+
+pub cpu-bytes-spec : {M : Type 1} → statement M
+cpu-bytes-spec =
+    tie.close
+    (tie.spec
+    byte-at-requires
+    mul-start
+    add-start
+    byte-at-requires-2
+    add-end
+    sub-result
+    part-result-start
+    part-result-end
+    returns)

@@ -1,0 +1,71 @@
+-- `places_in` copies sixteen places and leaves zeros behind them.
+-- Assumes nothing.
+use Prim.Native.Nat.{_-_, _≤_}
+use mathlib.Core.Path.{_≡_, sym, ap, _∙_}
+use native.Mathlib.Omega.{arith}
+use lib.ListN.{length, length-set}
+use Rattle.rules.specs.Records.{placesPerJob}
+use Rattle.rules.specs.Journal.{part}
+use Rattle.journal.specs.Enums.{placesIn}
+use Rattle.journal.proofs.CallRecord.{filled, fill-none, fill-step, fill-end, sixteen, place-at}
+use borrow.Author.Needs.{needs}
+use Rattle.journal.proofs.record.places_in.Statement.{statement}
+use Rattle.journal.proofs.record.places_in.Tie as tie
+
+abbrev Inv-loop : tie.InvT-loop
+Inv-loop bytes places₀ i₀ places i = (i ≤ placesPerJob) × (length places ≡ 255) × (places ≡ filled 255 (part 16 placesPerJob bytes) i)
+
+abbrev μ-loop : tie.MeasureT-loop
+μ-loop bytes places₀ i₀ places i = placesPerJob - i
+
+loop-holds : tie.Need-loop-holds Inv-loop μ-loop
+loop-holds c = (search needs, search needs, fill-none 255 (part 16 placesPerJob (c .args .bytes .now)))
+
+add-places : tie.Need-add-places Inv-loop μ-loop
+add-places c = search needs
+
+shared-slice-read-places : tie.Need-shared-slice-read-places Inv-loop μ-loop
+shared-slice-read-places c = search needs
+
+array-write-places : tie.Need-array-write-places Inv-loop μ-loop
+array-write-places c = search needs
+
+add-i : tie.Need-add-i Inv-loop μ-loop
+add-i c = search needs
+
+loop-less : tie.Need-loop-less Inv-loop μ-loop
+loop-less c = search needs
+
+loop-again : tie.Need-loop-again Inv-loop μ-loop
+loop-again c =
+    let a = c .before .before .before in
+    let bs = a .args .bytes .now in
+    let l = c .before .before .loop in
+    let e = sixteen bs (a .pre) in (
+      search needs,
+      simp length-set (l .inv .1),
+      rw (l .inv .2, sym (place-at bs (l .i) (c .before .loop-test .taken))) (fill-step 255 (part 16 placesPerJob bs) (l .i) (omega arith) (omega arith)),
+    )
+
+returns : tie.Need-returns Inv-loop μ-loop
+unfolding placesIn
+returns c =
+    let bs = c .before .before .args .bytes .now in
+    let e = sixteen bs (c .before .before .pre) in
+    let i : c .before .loop .i ≡ length (part 16 placesPerJob bs) = omega arith in
+    c .before .loop .inv .2 ∙ ap (filled 255 (part 16 placesPerJob bs)) i ∙ fill-end 255 (part 16 placesPerJob bs) (omega arith)
+
+pub places-in-spec : {M : Type 1} → statement M
+places-in-spec =
+    tie.close
+    (tie.spec
+    Inv-loop
+    μ-loop
+    loop-holds
+    add-places
+    shared-slice-read-places
+    array-write-places
+    add-i
+    loop-less
+    loop-again
+    returns)

@@ -1,0 +1,4 @@
+pub mod Grants
+pub mod Orders
+pub mod Searches
+pub mod Lent

@@ -1,0 +1,68 @@
+// The page of a node: its part of the page table, lent on to the page picker.
+
+ghost use mathlib.Core.Path.{_≡_};
+ghost use Prim.Native.Nat.{ℕ, _≤_, _<_};
+ghost use lib.ListN.{length, getD};
+ghost use Rattle.rules.specs.Basics.{sum};
+ghost use Rattle.placement.specs.Grants.{Fits, pageFound, lowestFree, firstGiven, markGiven, givenOf, stepsOf};
+ghost use Rattle.pages.specs.FirstZero.{mark};
+use machine;
+use pages;
+use pages::Found;
+use rules::Node;
+use rules::Page;
+
+// A search order: the nodes to try, and for each what the cursor field becomes if it grants.
+pub struct Order {
+    pub nodes: [u8; 64],
+    pub cursors: [u8; 64],
+    pub len: usize,
+}
+
+impl Order {
+    pub const EMPTY: Order = Order {
+        nodes: [0; 64],
+        cursors: [0; 64],
+        len: 0,
+    };
+}
+
+// The node that serves, its page, and the new cursor field.
+pub enum Grant {
+    Taken(Node, Page, u8),
+    Nothing,
+}
+
+// Marks the lowest free page of a node with its holder's byte, and answers the page's number.
+pub fn take_page(counts: &[u32], pages: &mut [u8], node: Node, holder: u8) -> Found
+    requires { ⌜ Fits (now counts) (now pages) × (node .0 < length (now counts)) ⌝ }
+    ensures answer { λ r. ⌜ pageFound r ≡ lowestFree (now (counts .entry)) (now (pages .entry)) (node .0) ⌝ }
+    ensures table { λ r. ⌜ now (pages .exit) ≡ mark (now (pages .entry)) r holder ⌝ }
+{
+    let start = machine::first_page(counts, node).0 as usize;
+    let n = node.0 as usize;
+    let end = start + (counts[n] as usize);
+    let found = pages::pick(&mut pages[start..end], holder);
+    match found {
+        Found::At(i) => Found::At(start + i),
+        Found::Full => Found::Full,
+    }
+}
+
+// Grants the lowest free page of the first node in the order that has one.
+pub fn grant_first(counts: &[u32], pages: &mut [u8], order: Order, holder: u8) -> Grant
+    requires { ⌜ Fits (now counts) (now pages) × (order .len ≤ 64) × ((i : ℕ) → i < order .len → getD (order .nodes) i 0 < length (now counts)) ⌝ }
+    ensures answer { λ r. ⌜ givenOf r ≡ firstGiven (now (counts .entry)) (now (pages .entry)) (stepsOf (order .nodes) (order .cursors) 0 (order .len)) ⌝ }
+    ensures table { λ r. ⌜ now (pages .exit) ≡ markGiven (now (pages .entry)) (givenOf r) holder ⌝ }
+{
+    let mut i = 0;
+    while i < order.len {
+        let node = Node(order.nodes[i]);
+        let found = take_page(counts, pages, node, holder);
+        if let Found::At(page) = found {
+            return Grant::Taken(node, Page(page as u32), order.cursors[i]);
+        }
+        i += 1;
+    }
+    Grant::Nothing
+}

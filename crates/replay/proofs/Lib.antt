@@ -1,0 +1,3 @@
+pub mod Words
+pub mod Said
+pub mod Run

@@ -1,0 +1,63 @@
+-- Document 01's ring story on machine A, encoded: what a replay writes and leaves.
+-- Assumes nothing.
+use Prim.Native.Nat.{ℕ, _+_, _*_, _^_}
+use mathlib.Core.Path.{_≡_, refl}
+use mathlib.Core.List.{List, [], _∷_, _++_}
+use lib.ListN.{replicate}
+use Rattle.rules.specs.Basics.{openBasics}
+use Rattle.rules.specs.Machine.{openMachine}
+use Rattle.rules.specs.Masks.{openMasks}
+use Rattle.rules.specs.Records.{openRecords}
+use Rattle.rules.specs.SearchOrder.{openSearchOrder}
+use Rattle.rules.specs.Calls.{openCalls, refuse, accept}
+use Rattle.rules.specs.Book.{openBook, request, release, install, rebind}
+use Rattle.rules.specs.Examples.{machineA, start}
+use Rattle.replay.specs.Encoding.{openEncoding, callsIn}
+use Rattle.replay.specs.Replay.{openReplay, onReplay}
+
+-- sixteen words: a kind, a job, three arguments, and no more than eight places
+abbrev call : ℕ → ℕ → ℕ → ℕ → ℕ → ℕ → ℕ → List ℕ
+call kind job a b c len places = kind ∷ job ∷ a ∷ b ∷ c ∷ len ∷ 0 ∷ 0 ∷ places ∷ replicate 7 0
+
+abbrev asking : List ℕ
+asking = call 1 0 0 0 0 0 0
+
+-- all nodes allowed; ring {3,3,1}; five requests; page 5 is given back; one request more
+abbrev story : List ℕ
+story =
+    call 3 0 15 0 0 0 0 ++ call 4 0 5 0 0 3 (3 + 3 * 256 + 1 * 256 * 256)
+    ++ asking ++ asking ++ asking ++ asking ++ asking ++ call 2 0 5 0 0 0 0 ++ asking
+
+-- the calls that it says
+story-calls : callsIn story
+    ≡ rebind 0 15 ∷ install 0 5 0 0 (3 ∷ 3 ∷ 1 ∷ [])
+    ∷ request 0 0 ∷ request 0 0 ∷ request 0 0 ∷ request 0 0 ∷ request 0 0 ∷ release 0 5 ∷ request 0 0 ∷ []
+unfolding openBasics openRecords openEncoding
+story-calls = refl
+
+-- the word of page p of node n, granted or released, and those of a refusal and of a call that is done
+abbrev page : ℕ → ℕ → ℕ
+page n p = n * 2 ^ 8 + p * 2 ^ 32
+
+abbrev no : ℕ → ℕ
+no r = r + 255 * 2 ^ 8 + 4294967295 * 2 ^ 32
+
+-- pages 4, 5, 2, 3, then refusal 8; page 5 released and granted again; the word past the answers stays
+story-run : onReplay machineA (start machineA) story (replicate 10 7)
+    ≡ record {
+      answer = accept 9;
+      tables = record { ledger = 0 ∷ 0 ∷ 1 ∷ 1 ∷ 1 ∷ 1 ∷ []; records = (5 + 3 * 2 ^ 16 + 1 * 2 ^ 24) ∷ 0 ∷ 15 ∷ 0 ∷ (3 + 3 * 256 + 1 * 256 * 256) ∷ 0 ∷ [] };
+      output = no 0 ∷ no 0 ∷ page 3 4 ∷ page 3 5 ∷ page 1 2 ∷ page 1 3 ∷ no 8 ∷ page 3 5 ∷ page 3 5 ∷ 7 ∷ [];
+    }
+unfolding openBasics openMachine openMasks openRecords openSearchOrder openCalls openBook openEncoding openReplay
+story-run = refl
+
+-- refused, and nothing changes
+abbrev Untouched : List ℕ → ℕ → ℕ → Type 0
+Untouched words room r =
+    onReplay machineA (start machineA) words (replicate room 7) ≡ record { answer = refuse r; tables = start machineA; output = replicate room 7 }
+
+-- a list that is cut short, an unknown kind, an install with too many places, and an output that is too short
+refused-whole : Untouched (1 ∷ story) 10 13 × Untouched (story ++ call 6 0 0 0 0 0 0) 10 13 × Untouched (call 4 0 5 0 0 65 0) 10 13 × Untouched story 8 11
+unfolding openBasics openMachine openRecords openCalls openEncoding openReplay
+refused-whole = (refl, refl, refl, refl)

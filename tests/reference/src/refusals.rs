@@ -1,0 +1,300 @@
+//! All refusals in order: each call, each refusal, and the one before it when two fit.
+
+use crate::calls::{apply, apply_with, Answer, Call, Tables};
+use crate::examples::machine_a;
+use crate::record::{read, WORDS};
+
+/// Asserts a refusal, and that the tables stay as they are.
+fn refused(tables: &Tables, nodes: usize, call: Call, number: u8) {
+    let mut after = tables.clone();
+    assert_eq!(apply_with(nodes, &mut after, &call), Answer::Refused(number), "{call:?}");
+    assert_eq!(after, *tables);
+}
+
+/// Machine A changed by `change`.
+fn a_with(change: fn(&mut Tables)) -> Tables {
+    let mut tables = machine_a();
+    change(&mut tables);
+    tables
+}
+
+/// An install on job 0.
+fn install(mode: u64, flag: u64, mask: u64, places: &[u8]) -> Call {
+    Call::Install { job: 0, mode, flag, mask, places: places.to_vec() }
+}
+
+/// All changes of machine A that break what every call looks at in the job table.
+fn bad_job_tables() -> Vec<Tables> {
+    vec![
+        a_with(|t| t.jobs = vec![]),
+        a_with(|t| t.jobs = vec![0; 5]),
+        a_with(|t| t.jobs = vec![0; 7]),
+        a_with(|t| t.jobs = vec![0; 65 * WORDS]),
+    ]
+}
+
+/// Changes that break the page counts or the page table.
+fn bad_pages() -> Vec<Tables> {
+    vec![
+        a_with(|t| t.counts = vec![]),
+        a_with(|t| t.counts = vec![0; 65]),
+        a_with(|t| t.counts[2] = 65_537),
+        a_with(|t| t.counts[2] = u32::MAX),
+        a_with(|t| t.counts[2] = 1),
+        a_with(|t| {
+            t.pages.pop();
+        }),
+        a_with(|t| t.pages = vec![]),
+        a_with(|t| {
+            t.counts = vec![65_536; 17];
+            t.pages = vec![0; 17 * 65_536];
+            t.cpus = vec![0];
+            t.distances = vec![10; 17 * 17];
+        }),
+    ]
+}
+
+/// Changes that break the CPU table or the distances.
+fn bad_maps() -> Vec<Tables> {
+    vec![
+        a_with(|t| t.cpus = vec![]),
+        a_with(|t| t.cpus = vec![0; 257]),
+        a_with(|t| t.cpus[7] = 4),
+        a_with(|t| t.distances = vec![]),
+        a_with(|t| t.distances.push(10)),
+        a_with(|t| {
+            t.distances.pop();
+        }),
+        a_with(|t| t.distances[5] = 11),
+        a_with(|t| t.distances[6] = 9),
+        a_with(|t| t.distances[6] = 0),
+    ]
+}
+
+#[test]
+fn request_1() {
+    for tables in [bad_job_tables(), bad_pages(), bad_maps()].concat() {
+        refused(&tables, 4, Call::Request { job: 999, cpu: 999 }, 1);
+        refused(&tables, 4, Call::Request { job: 0, cpu: 0 }, 1);
+    }
+}
+
+#[test]
+fn request_2_3_4_8() {
+    let malformed = a_with(|t| t.jobs[0] = 7);
+    for job in [8, 64, 255, usize::MAX, usize::MAX / 6 + 1] {
+        refused(&malformed, 4, Call::Request { job, cpu: 999 }, 2);
+    }
+    for cpu in [8, 256, usize::MAX] {
+        refused(&malformed, 4, Call::Request { job: 0, cpu }, 3);
+    }
+    let malformed_and_full = a_with(|t| {
+        t.jobs[0] = 7;
+        t.pages = vec![9; 6];
+    });
+    refused(&malformed_and_full, 4, Call::Request { job: 0, cpu: 0 }, 4);
+    let full = a_with(|t| t.pages = vec![9; 7]);
+    refused(&full, 4, Call::Request { job: 0, cpu: 0 }, 8);
+    refused(&machine_a(), 4, Call::Request { job: 1, cpu: 0 }, 8);
+}
+
+#[test]
+fn release_1_2_10() {
+    for tables in [bad_job_tables(), bad_pages()].concat() {
+        refused(&tables, 4, Call::Release { job: 999, page: 999 }, 1);
+    }
+    for job in [8, 64, 255, usize::MAX] {
+        refused(&machine_a(), 4, Call::Release { job, page: 999 }, 2);
+    }
+    let held = a_with(|t| t.pages = vec![0, 2, 99, 255, 1, 1, 1, 1]);
+    for page in [0, 1, 2, 3, 6, 7, 8, 0xFFFF_FFFF, usize::MAX] {
+        refused(&held, 4, Call::Release { job: 0, page }, 10);
+    }
+    let mut after = held.clone();
+    assert_eq!(apply(&mut after, &Call::Release { job: 0, page: 4 }), Answer::Released { node: 3, page: 4 });
+    assert_eq!(after.pages, vec![0, 2, 99, 255, 0, 1, 1, 1]);
+    for tables in bad_maps() {
+        let mut tables = tables;
+        tables.pages[0] = 1;
+        tables.jobs[0] = 7;
+        assert_eq!(apply(&mut tables, &Call::Release { job: 0, page: 0 }), Answer::Released { node: 0, page: 0 });
+    }
+}
+
+#[test]
+fn install_1_2_4() {
+    for tables in bad_job_tables() {
+        refused(&tables, 4, install(9, 9, 0, &[]), 1);
+    }
+    for nodes in [0, 65, usize::MAX] {
+        refused(&machine_a(), nodes, install(9, 9, 0, &[]), 1);
+    }
+    for job in [8, usize::MAX] {
+        let call = Call::Install { job, mode: 9, flag: 9, mask: 0, places: vec![] };
+        refused(&machine_a(), 4, call, 2);
+    }
+    let malformed = a_with(|t| t.jobs[0] = 7);
+    refused(&malformed, 4, install(9, 9, 0, &[]), 4);
+    refused(&malformed, 4, install(0, 0, 0, &[]), 4);
+    refused(&machine_a(), 3, install(0, 0, 0, &[]), 4);
+    for tables in [bad_pages(), bad_maps()].concat() {
+        let mut tables = tables;
+        assert_eq!(apply_with(4, &mut tables, &install(2, 0, 1, &[])), Answer::Done);
+    }
+}
+
+#[test]
+fn install_5_before_7_and_6() {
+    let fresh = a_with(|t| t.jobs[2] = 0);
+    for tables in [fresh, machine_a()] {
+        for mode in [7, 8, 255, 256, u64::MAX] {
+            refused(&tables, 4, install(mode, 0, 0, &[]), 5);
+        }
+        for flag in [3, 255, 256, 257, u64::MAX] {
+            refused(&tables, 4, install(2, flag, 1, &[]), 5);
+            refused(&tables, 4, install(0, flag, 0, &[]), 5);
+        }
+        for flag in [1, 2] {
+            refused(&tables, 4, install(0, flag, 1, &[1]), 5);
+            refused(&tables, 4, install(4, flag, 1, &[]), 5);
+            refused(&tables, 4, install(5, flag, 0, &[1]), 5);
+            refused(&tables, 4, install(6, flag, 0, &[1]), 5);
+            refused(&tables, 4, install(1, flag, 0, &[]), 5);
+            refused(&tables, 4, install(1, flag, 0, &[1]), 5);
+        }
+    }
+}
+
+#[test]
+fn install_7_before_6() {
+    let fresh = a_with(|t| t.jobs[2] = 0);
+    refused(&fresh, 4, install(0, 0, 0, &[]), 7);
+    refused(&fresh, 4, install(1, 0, 0, &[]), 7);
+    refused(&fresh, 4, install(2, 0, 0, &[]), 7);
+    refused(&fresh, 4, install(2, 0, u64::MAX, &[1; 20]), 7);
+    refused(&fresh, 4, install(5, 0, 0, &[1]), 7);
+    refused(&fresh, 4, install(4, 0, 0, &[1; 17]), 7);
+}
+
+#[test]
+fn install_6() {
+    let a = machine_a();
+    for flag in [0, 1, 2] {
+        refused(&a, 4, install(2, flag, 0, &[]), 6);
+        refused(&a, 4, install(3, flag, 0, &[]), 6);
+        for mode in [1, 2, 3] {
+            refused(&a, 4, install(mode, flag, 1, &[0]), 6);
+        }
+    }
+    refused(&a, 4, install(0, 0, 1, &[]), 6);
+    refused(&a, 4, install(0, 0, 0, &[0]), 6);
+    refused(&a, 4, install(1, 0, 0, &[0]), 6);
+    for mode in [4, 5, 6] {
+        refused(&a, 4, install(mode, 0, 1, &[1]), 6);
+        refused(&a, 4, install(mode, 0, 0, &[]), 6);
+        refused(&a, 4, install(mode, 0, 0, &[1; 17]), 6);
+        refused(&a, 4, install(mode, 0, 0, &[1; 1000]), 6);
+    }
+    let only_1 = a_with(|t| t.jobs[2] = 0b0010);
+    for mode in [1, 2, 3] {
+        for flag in [0, 1] {
+            refused(&a, 4, install(mode, flag, 0b1_0001, &[]), 6);
+            refused(&a, 4, install(mode, flag, 1 << 63, &[]), 6);
+            refused(&only_1, 4, install(mode, flag, 0b1101, &[]), 6);
+        }
+        let mut tables = only_1.clone();
+        assert_eq!(apply(&mut tables, &install(mode, 2, 1 << 63, &[])), Answer::Done);
+        assert_eq!(read(&tables.jobs, 0).effective, 0b0010);
+    }
+    let mut tables = machine_a();
+    assert_eq!(apply(&mut tables, &install(5, 0, 0, &[255, 4, 200])), Answer::Done);
+}
+
+#[test]
+fn install_leaves_exactly_the_record() {
+    let mut tables = machine_a();
+    tables.jobs[..6].copy_from_slice(&[0x0203_0005, 0, 0b0111, 0, 0x03_02_01, 0]);
+    assert_eq!(apply(&mut tables, &install(3, 1, 0b1110, &[])), Answer::Done);
+    assert_eq!(tables.jobs[..6], [0x0103, 0b1110, 0b0111, 0b0110, 0, 0]);
+    let places = [1, 2, 3, 4, 5, 6, 7, 8, 9, 10, 11, 12, 13, 14, 15, 16];
+    assert_eq!(apply(&mut tables, &install(6, 0, 0, &places)), Answer::Done);
+    assert_eq!(tables.jobs[..6], [0x0010_0006, 0, 0b0111, 0, 0x0807_0605_0403_0201, 0x100F_0E0D_0C0B_0A09]);
+    assert_eq!(apply(&mut tables, &install(1, 0, 0, &[])), Answer::Done);
+    assert_eq!(tables.jobs[..6], [1, 0, 0b0111, 0, 0, 0]);
+    assert_eq!(tables.jobs[6..], vec![0; 42]);
+}
+
+#[test]
+fn rebind_1_2_4_6_7() {
+    let rebind = |allowed| Call::Rebind { job: 0, allowed };
+    for tables in bad_job_tables() {
+        refused(&tables, 4, rebind(u64::MAX), 1);
+    }
+    for nodes in [0, 65, usize::MAX] {
+        refused(&machine_a(), nodes, rebind(u64::MAX), 1);
+    }
+    refused(&machine_a(), 4, Call::Rebind { job: 8, allowed: u64::MAX }, 2);
+    let malformed = a_with(|t| t.jobs[0] = 7);
+    refused(&malformed, 4, rebind(u64::MAX), 4);
+    refused(&malformed, 4, rebind(0), 4);
+    for allowed in [0b1_0000, 1 << 63, u64::MAX] {
+        refused(&machine_a(), 4, rebind(allowed), 6);
+    }
+    refused(&machine_a(), 4, rebind(0), 7);
+    let fresh = a_with(|t| t.jobs[2] = 0);
+    refused(&fresh, 4, rebind(0), 7);
+    for tables in [bad_pages(), bad_maps()].concat() {
+        let mut tables = tables;
+        assert_eq!(apply_with(4, &mut tables, &rebind(1)), Answer::Done);
+    }
+}
+
+#[test]
+fn rebind_leaves_exactly_the_record() {
+    let mut tables = machine_a();
+    tables.jobs[..6].copy_from_slice(&[0x0400_0003, 0b0011, 0b1111, 0b1010, 0, 0]);
+    assert_eq!(apply(&mut tables, &Call::Rebind { job: 0, allowed: 0b0110 }), Answer::Done);
+    assert_eq!(tables.jobs[..6], [0x0400_0003, 0b0011, 0b0110, 0b0100, 0, 0]);
+    tables.jobs[..6].copy_from_slice(&[0x0202, 1 << 62 | 1, 0b1111, 0b0101, 0, 0]);
+    assert_eq!(apply(&mut tables, &Call::Rebind { job: 0, allowed: 0b1110 }), Answer::Done);
+    assert_eq!(tables.jobs[..6], [0x0202, 1 << 62 | 1, 0b1110, 0b1010, 0, 0]);
+    tables.jobs[..6].copy_from_slice(&[1, 0, 0b1111, 0, 0, 0]);
+    assert_eq!(apply(&mut tables, &Call::Rebind { job: 0, allowed: 0b1000 }), Answer::Done);
+    assert_eq!(tables.jobs[..6], [1, 0, 0b1000, 0, 0, 0]);
+}
+
+#[test]
+fn clear_1_2_and_nothing_else() {
+    for tables in bad_job_tables() {
+        refused(&tables, 4, Call::Clear { job: 0 }, 1);
+    }
+    for nodes in [0, 65, usize::MAX] {
+        refused(&machine_a(), nodes, Call::Clear { job: 999 }, 1);
+    }
+    for job in [8, 64, usize::MAX] {
+        refused(&machine_a(), 4, Call::Clear { job }, 2);
+    }
+    let mut garbage = a_with(|t| t.jobs = vec![u64::MAX; 12]);
+    assert_eq!(apply(&mut garbage, &Call::Clear { job: 0 }), Answer::Done);
+    assert_eq!(garbage.jobs[..6], [0; 6]);
+    assert_eq!(garbage.jobs[6..], [u64::MAX; 6]);
+}
+
+#[test]
+fn the_longest_tables_are_accepted() {
+    let mut tables = Tables {
+        counts: vec![65_536; 16],
+        cpus: vec![15; 256],
+        distances: vec![10; 256],
+        pages: vec![64; 1_048_576 + 5],
+        jobs: vec![0; 64 * WORDS],
+    };
+    tables.pages[1_048_575] = 0;
+    assert_eq!(apply(&mut tables, &Call::Rebind { job: 63, allowed: 0x8000 }), Answer::Done);
+    let granted = Answer::Granted { node: 15, page: 1_048_575 };
+    assert_eq!(apply(&mut tables, &Call::Request { job: 63, cpu: 255 }), granted);
+    assert_eq!(tables.pages[1_048_575..], [64; 6]);
+    let released = Answer::Released { node: 15, page: 1_048_575 };
+    assert_eq!(apply(&mut tables, &Call::Release { job: 63, page: 1_048_575 }), released);
+    refused(&tables, 16, Call::Release { job: 63, page: 1_048_576 }, 10);
+}
