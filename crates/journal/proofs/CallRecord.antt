@@ -2,7 +2,7 @@
 -- Assumes nothing.
 use Prim.Native.Nat.{ℕ, zero, suc, _+_, _-_, _≤_, _<_}
 use mathlib.Core.Path.{_≡_, refl, sym, ap, _∙_}
-use mathlib.Core.Bool.{Bool, true, false, cond, _&&_, _||_, and-assoc, and-true}
+use mathlib.Core.Bool.{Bool, true, _&&_, _||_, and-assoc, and-true}
 use mathlib.Core.List.{List, _∷_, _++_}
 use mathlib.Core.Option.{none, some}
 use native.Mathlib.Nat.{zero-add}
@@ -14,10 +14,9 @@ use lib.ListN.{length, getD, take, drop, set, replicate, length-take, length-rep
 use lib.Seq.{drop-cons, getD-take, getD-drop, paste, paste-zero, paste-suc, take-take, take-length, take-append-add}
 use Rattle.rules.specs.Basics.{allAt}
 use Rattle.rules.specs.Records.{placesPerJob}
-use Rattle.rules.specs.Book.{Call}
 use Rattle.rules.specs.Journal.{Kind, request′, release′, rebind′, install′, clear′, unknownKind, byteAt, part, marked, kindOf, kindKnown, used, recordSize, recordOk, callIn}
 use Rattle.rules.proofs.Lists.{both-true}
-use Rattle.journal.specs.Enums.{placesIn, inRecord}
+use Rattle.journal.specs.Enums.{placesIn}
 use Rattle.journal.proofs.Numbers.{part-length, long-take, part-take, number-take}
 
 -- ---- the kinds
@@ -85,29 +84,10 @@ undamaged bs h =
     let k = both-true {a = long && marked bs} {b = known} (both-true {a = long && marked bs && known} h .0) in
     (leb-true recordSize (length bs) (both-true {a = long} (k .0) .0), k .1)
 
--- a record in which a call is found is undamaged, and has that call
-pub call-found : (bs : List ℕ) {call : Call} → inRecord bs ≡ some call → (recordOk bs ≡ true) × (callIn (kindOf (byteAt bs 2)) bs ≡ call)
-unfolding inRecord
-call-found bs {call} h = go (recordOk bs) refl h
-  where
-    go : (ok : Bool) → recordOk bs ≡ ok → cond ok (some (callIn (kindOf (byteAt bs 2)) bs)) none ≡ some call
-        → (recordOk bs ≡ true) × (callIn (kindOf (byteAt bs 2)) bs ≡ call)
-    go true e h = (e, cc)
-    go false e h = absurd (let z : _≡_ {A = ℕ} 0 1 = cc in omega arith)
-
--- a record in which none is found is damaged
-pub call-missing : (bs : List ℕ) → inRecord bs ≡ none → recordOk bs ≡ false
-unfolding inRecord
-call-missing bs h = go (recordOk bs) h
-  where
-    go : (ok : Bool) → cond ok (some (callIn (kindOf (byteAt bs 2)) bs)) none ≡ none → ok ≡ false
-    go true h = absurd (let z : _≡_ {A = ℕ} 0 1 = cc in omega arith)
-    go false h = refl
-
 -- ---- a record goes by its own 32 bytes
 
 -- a byte of them
-byte-alone : (bs : List ℕ) (i : ℕ) → i < recordSize → byteAt (take recordSize bs) i ≡ byteAt bs i
+pub byte-alone : (bs : List ℕ) (i : ℕ) → i < recordSize → byteAt (take recordSize bs) i ≡ byteAt bs i
 byte-alone bs i h = getD-take recordSize bs i 0 h
 
 -- whether it is undamaged
@@ -141,11 +121,6 @@ read-alone install′ bs =
 read-alone clear′ bs = rw (byte-alone bs 3 (omega arith))
 read-alone unknownKind bs = refl
 
--- so the call that is found in it
-pub found-alone : (bs : List ℕ) → inRecord (take recordSize bs) ≡ inRecord bs
-unfolding inRecord
-found-alone bs = rw (tested-alone bs, byte-alone bs 2 (omega arith), read-alone (kindOf (byteAt bs 2)) bs)
-
 -- and its places
 pub places-alone : (bs : List ℕ) → placesIn (take recordSize bs) ≡ placesIn bs
 unfolding placesIn
@@ -175,7 +150,8 @@ zeros-drop zero n = let e : n ≡ n - 0 = omega arith in ap (λ (x : ℕ). repli
 zeros-drop (suc k) zero = let e : 0 ≡ 0 - suc k = omega arith in ap (λ (x : ℕ). replicate x 0) e
 zeros-drop (suc k) (suc n) = let e : n - k ≡ suc n - suc k = omega arith in zeros-drop k n ∙ ap (λ (x : ℕ). replicate x 0) e
 
-zeros-take : (k n : ℕ) → k ≤ n → take {A = ℕ} k (replicate n 0) ≡ replicate k 0
+-- the first of so many zeros
+pub zeros-take : (k n : ℕ) → k ≤ n → take {A = ℕ} k (replicate n 0) ≡ replicate k 0
 zeros-take zero n h = refl
 zeros-take (suc k) zero h = absurd (omega arith)
 zeros-take (suc k) (suc n) h = ap (λ (xs : List ℕ). 0 ∷ xs) (zeros-take k n (omega arith))

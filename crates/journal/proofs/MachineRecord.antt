@@ -2,7 +2,7 @@
 -- Assumes nothing.
 use Prim.Native.Nat.{ℕ, zero, suc, _+_, _*_, _≤_, _<_}
 use mathlib.Core.Path.{_≡_, refl, ap, ap₂, _∙_, sym}
-use mathlib.Core.Bool.{Bool, true, false, _&&_}
+use mathlib.Core.Bool.{Bool, true, false, _&&_, cond, false≢true}
 use mathlib.Core.List.{List, [], _∷_, _++_, map}
 use native.Mathlib.Nat.{add-zero, zero-add, mul-le-mul}
 use native.Mathlib.Numerals.{add-one}
@@ -16,7 +16,7 @@ use Rattle.rules.specs.Machine.{Machine, machineOk, pageTableOk}
 use Rattle.rules.specs.Calls.{unless, accept}
 use Rattle.rules.specs.Journal.{byteAt, number, marked, headSize, headOk, countsOk, machineSize, machineIn, journalPages}
 use Rattle.machine.specs.Tables.{machineOf}
-use Rattle.journal.specs.Enums.{verdict}
+use Rattle.journal.specs.Enums.{verdict, openingSize}
 use Rattle.journal.proofs.Numbers.{long-take, part-take, number-take}
 use Rattle.rules.proofs.Lists.{both-true}
 
@@ -100,7 +100,7 @@ opened bs {k} h = go (headOk bs) (countsOk bs) (leb size (length bs)) (machineOk
     go true false c d eb ec ed h = absurd (let z : _≡_ {A = ℕ} 0 1 = cc in omega arith)
     go false b c d eb ec ed h = absurd (let z : _≡_ {A = ℕ} 0 1 = cc in omega arith)
 
--- ---- a machine record goes by its own bytes, at most 358
+-- ---- a machine record goes by its own bytes
 
 -- "N (1 to 16), CPU count (1 to 64)": so many bytes at most
 pub size-most : (bs : List ℕ) → countsOk bs ≡ true → machineSize bs ≤ 358
@@ -118,7 +118,7 @@ unfolding from
 map-from-same f g a zero h = refl
 map-from-same f g a (suc k) h = ap₂ (λ (x : ℕ) (xs : List ℕ). x ∷ xs) (h a (omega arith)) (map-from-same f g (suc a) k (λ i l. h i (omega arith)))
 
-module _ (w : ℕ) (bs : List ℕ) (enough : 358 ≤ w) where
+module _ (w : ℕ) (bs : List ℕ) (six : headSize ≤ w) where
   byte-alone : (i : ℕ) → i < headSize → byteAt (take w bs) i ≡ byteAt bs i
   byte-alone i h = getD-take w bs i 0 (omega arith)
 
@@ -144,16 +144,17 @@ module _ (w : ℕ) (bs : List ℕ) (enough : 358 ≤ w) where
   unfolding machineSize
   size-alone = rw (byte-alone 3 (omega arith), byte-alone 4 (omega arith))
 
+module _ (w : ℕ) (bs : List ℕ) (six : headSize ≤ w) (enough : countsOk bs ≡ true → machineSize bs ≤ w) where
   -- the machine
   pub machine-alone : countsOk bs ≡ true → machineIn (take w bs) ≡ machineIn bs
   unfolding machineIn machineSize
   machine-alone h =
       let n = byteAt bs 3 in
       let k = byteAt bs 4 in
-      let fits : machineSize bs ≤ 358 = size-most bs h in
+      let fits : machineSize bs ≤ w = enough h in
       rw (
-        byte-alone 3 (omega arith),
-        byte-alone 4 (omega arith),
+        byte-alone w bs six 3 (omega arith),
+        byte-alone w bs six 4 (omega arith),
         part-take w (headSize + 2 * n) k bs (omega arith),
         part-take w (headSize + 2 * n + k) (n * n) bs (omega arith),
         map-from-same (countAt (take w bs)) (countAt bs) 0 n (λ i l. number-take w (headSize + 2 * i) 2 bs (omega arith)),
@@ -162,12 +163,35 @@ module _ (w : ℕ) (bs : List ℕ) (enough : 358 ≤ w) where
   -- the verdict
   pub verdict-alone : verdict (take w bs) ≡ verdict bs
   unfolding verdict
-  verdict-alone = rw (head-alone, counts-alone, size-alone) (go (countsOk bs) refl)
+  verdict-alone = rw (head-alone w bs six, counts-alone w bs six, size-alone w bs six) (go (countsOk bs) refl)
     where
       go : (ok : Bool) → countsOk bs ≡ ok
           → unless (headOk bs) 13 (unless ok 1 (unless (leb (machineSize bs) (length (take w bs))) 13
           (unless (machineOk (machineIn (take w bs)) && leb (sum (machineIn (take w bs) .pageCounts)) journalPages) 1 (accept (machineSize bs)))))
           ≡ unless (headOk bs) 13 (unless ok 1 (unless (leb (machineSize bs) (length bs)) 13
           (unless (machineOk (machineIn bs) && leb (sum (machineIn bs .pageCounts)) journalPages) 1 (accept (machineSize bs)))))
-      go true e = rw (long-take (machineSize bs) w bs (omega (arith, size-most bs e)), machine-alone e)
+      go true e = rw (long-take (machineSize bs) w bs (enough e), machine-alone e)
       go false e = refl
+
+-- ---- so it is read in two parts: its six head bytes, and what these say
+
+-- "N (1 to 16), CPU count (1 to 64)": so many bytes at least and at most
+pub opening-between : (bs : List ℕ) → (headSize ≤ openingSize bs) × (openingSize bs ≤ 358)
+unfolding openingSize machineSize
+opening-between bs = go (countsOk bs) refl
+  where
+    go : (ok : Bool) → countsOk bs ≡ ok → (headSize ≤ cond ok (machineSize bs) headSize) × (cond ok (machineSize bs) headSize ≤ 358)
+    go true e = (omega arith, size-most bs e)
+    go false e = (omega arith, omega arith)
+
+-- the verdict on the bytes that the six head bytes ask for is that on the whole journal
+pub opening-alone : (bs : List ℕ) → verdict (take (openingSize (take headSize bs)) bs) ≡ verdict bs
+unfolding openingSize
+opening-alone bs =
+    let at = openingSize bs in
+    rw (counts-alone headSize bs (omega arith), size-alone headSize bs (omega arith))
+    (verdict-alone at bs (opening-between bs .0) (λ e. enough (countsOk bs) e))
+  where
+    enough : (ok : Bool) → ok ≡ true → machineSize bs ≤ cond ok (machineSize bs) headSize
+    enough true e = omega arith
+    enough false e = absurd (false≢true e)

@@ -10,7 +10,7 @@ use Rattle.rules.specs.Machine.{machineOk}
 use Rattle.rules.specs.Records.{placesPerJob}
 use Rattle.rules.specs.Calls.{Decision, refuse, accept, unless}
 use Rattle.rules.specs.Book.{Call as LawCall, request, release, rebind, install, clear}
-use Rattle.rules.specs.Journal.{Kind as LawKind, request′, release′, rebind′, install′, clear′, unknownKind, byteAt, part, kindOf, recordOk, callIn, headOk, countsOk, machineSize, machineIn, journalPages}
+use Rattle.rules.specs.Journal.{Kind as LawKind, request′, release′, rebind′, install′, clear′, unknownKind, part, headSize, headOk, countsOk, machineSize, machineIn, journalPages}
 use Rattle.rules.specs.Replies.{numberOf}
 use Rattle.journal.specs.declared.record.Kind.{Kind}
 use Rattle.journal.specs.declared.record.Kind.the-variants.{Request as RequestKind, Release as ReleaseKind, Rebind as RebindKind, Install as InstallKind, Clear as ClearKind, Unknown}
@@ -41,10 +41,6 @@ callOf (Install job mode flag mask len) places = some (install job mode flag mas
 callOf (Clear job) places = some (clear job)
 callOf Damaged places = none
 
--- "A bad mark, kind, unused byte or short record": the call in a record, none in a damaged one
-unfoldable pub inRecord : List ℕ → Option LawCall
-inRecord bs = cond (recordOk bs) (some (callIn (kindOf (byteAt bs 2)) bs)) none
-
 -- the size of a good machine record, or the refusal of the journal
 abbrev pub openingOf : Opening → Decision ℕ
 openingOf (Good size) = accept size
@@ -58,3 +54,7 @@ verdict bs =
     (unless (leb (machineSize bs) (length bs)) 13
     (unless (machineOk (machineIn bs) && leb (sum (machineIn bs .pageCounts)) journalPages) 1
     (accept (machineSize bs)))))
+
+-- "N (1 to 16), CPU count (1 to 64)": the bytes that the verdict goes by, the six head bytes alone where their counts break the rules
+unfoldable pub openingSize : List ℕ → ℕ
+openingSize bs = cond (countsOk bs) (machineSize bs) headSize

@@ -1,1 +1,3 @@
 pub mod Enums
+pub mod Runs
+pub mod Whole

@@ -8,10 +8,10 @@ ghost use lib.Dec.{leb};
 ghost use Rattle.rules.specs.Basics.{sum};
 ghost use Rattle.rules.specs.Machine.{machineOk};
 ghost use Rattle.rules.specs.Journal.{byteAt, headSize, headOk, countsOk, machineSize, machineIn, journalPages};
-ghost use Rattle.journal.specs.Enums.{openingOf, verdict};
-use super::bytes::byte_at;
-use super::bytes::marked;
-use super::bytes::u16_at;
+ghost use Rattle.journal.specs.Enums.{openingOf, verdict, openingSize};
+use super::reading::byte_at;
+use super::reading::marked;
+use super::reading::u16_at;
 use rules::Refusal;
 
 // What a machine record comes to: its size, or the refusal of the journal.
@@ -114,4 +114,15 @@ pub fn verdict(bytes: &[u8]) -> Opening
         return Opening::Faulty(Refusal::BadTables);
     }
     Opening::Good(size)
+}
+
+// How many bytes the verdict goes by, as the six head bytes say.
+pub fn opening_size(bytes: &[u8]) -> usize
+    requires { ⌜ headSize ≤ length (now bytes) ⌝ }
+    ensures { λ r. ⌜ (r ≡ openingSize (now (bytes .entry))) × (headSize ≤ r) × (r ≤ 358) ⌝ }
+{
+    if !counts_ok(bytes) {
+        return 6;
+    }
+    machine_size(bytes)
 }

@@ -8,10 +8,10 @@ ghost use lib.ListN.{length, take};
 ghost use lib.Dec.{ltb, eqb};
 ghost use Rattle.rules.specs.Basics.{allAt};
 ghost use Rattle.rules.specs.Journal.{kindOf, kindKnown, used, recordSize, recordOk, callIn};
-ghost use Rattle.journal.specs.Enums.{kindIn, callOf, placesIn, inRecord};
-use super::bytes::marked;
-use super::bytes::u32_at;
-use super::bytes::u64_at;
+ghost use Rattle.journal.specs.Enums.{kindIn, callOf, placesIn};
+use super::reading::marked;
+use super::reading::u32_at;
+use super::reading::u64_at;
 use rules::Page;
 
 // "kind (1 request, 2 release, 3 rebind, 4 install, 5 clear)"
@@ -125,7 +125,7 @@ pub fn record_ok(bytes: &[u8]) -> bool
 }
 
 // The call in a record of a known kind.
-fn decode(bytes: &[u8], kind: Kind) -> Call
+pub fn decode(bytes: &[u8], kind: Kind) -> Call
     requires { ⌜ (recordSize ≤ length (now bytes)) × (kindKnown (kindIn kind) ≡ true) ⌝ }
     ensures { λ r. ⌜ callOf r (placesIn (now (bytes .entry))) ≡ some (callIn (kindIn kind) (now (bytes .entry))) ⌝ }
 {
@@ -153,16 +153,6 @@ fn decode(bytes: &[u8], kind: Kind) -> Call
         Kind::Clear => Call::Clear { job: job },
         Kind::Unknown => Call::Damaged,
     }
-}
-
-// The call in a record, or that it is damaged.
-pub fn call_in(bytes: &[u8]) -> Call
-    ensures { λ r. ⌜ callOf r (placesIn (now (bytes .entry))) ≡ inRecord (now (bytes .entry)) ⌝ }
-{
-    if !record_ok(bytes) {
-        return Call::Damaged;
-    }
-    decode(bytes, Kind::of(bytes[2]))
 }
 
 // The places of an install, with zeros behind them: as many as a list length can count.

@@ -1,10 +1,10 @@
 // Masks of nodes: document 01, "Masks". Bit n of a mask stands for node n.
 
 ghost use mathlib.Core.Path.{_≡_};
-ghost use Prim.Native.Nat.{_-_, _^_, _<_, _≤_};
+ghost use Prim.Native.Nat.{ℕ, _+_, _-_, _%_, _^_, _<_, _≤_};
 ghost use lib.Bits.{bitOr};
 ghost use Rattle.rules.specs.Basics.{first, keep, around};
-ghost use Rattle.rules.specs.Masks.{maskBits, has, isNone, below, allNodes, both, within, insert, rank, size, select, lowest, foldedTo, folded, remappedTo, remapped};
+ghost use Rattle.rules.specs.Masks.{maskBits, has, isNone, below, allNodes, both, within, insert, rank, size, select, lowest, folded, remappedTo, remapped};
 ghost use Rattle.nodemask.specs.Found.{foundNode};
 use rules::Node;
 
@@ -166,26 +166,31 @@ impl Mask {
         Found::At(Node(u64::trailing_zeros(self.0) as u8))
     }
 
-    // The allowed node that user bit b gives.
-    pub fn folded_to(b: u8, allowed: Mask) -> Node
-        requires { ⌜ 0 < allowed .0 ⌝ }
-        ensures { λ r. ⌜ r .0 ≡ foldedTo maskBits (allowed .0) b ⌝ }
+    // The node after one of rank r mod the size, once round: that of the next rank.
+    fn after(self, node: Node) -> Node
+        requires { ⌜ (0 < self .0) × (node .0 < maskBits) ⌝ }
+        ensures { λ n. ⌜ ((r : ℕ) → node .0 ≡ select maskBits (self .0) (r % size maskBits (self .0)) → n .0 ≡ select maskBits (self .0) ((r + 1) % size maskBits (self .0))) ⌝ }
     {
-        allowed.select((b as u32) % allowed.size())
+        let above = (self.0 >> node.0) >> 1;
+        if above != 0 {
+            return Node(node.0 + 1 + (u64::trailing_zeros(above) as u8));
+        }
+        self.lowest()
     }
 
-    // The user's bits folded into the allowed nodes.
+    // The user's bits folded into the allowed nodes: bit by bit, round the allowed nodes.
     pub fn folded(self, allowed: Mask) -> Mask
         requires { ⌜ 0 < allowed .0 ⌝ }
         ensures { λ r. ⌜ r .0 ≡ folded maskBits (self .0) (allowed .0) ⌝ }
     {
         let mut out = Mask::EMPTY;
+        let mut node = allowed.lowest();
         let mut b: u8 = 0;
         while b < 64 {
             if self.has(Node(b)) {
-                let node = Mask::folded_to(b, allowed);
                 out = out.with(node);
             }
+            node = allowed.after(node);
             b += 1;
         }
         out

@@ -2,7 +2,9 @@ pub mod Grants
 pub mod Orders
 pub mod Modes
 pub mod Searches
+pub mod Firsts
 pub mod Requests
 pub mod Tested
 pub mod Outcomes
 pub mod Releases
+pub mod InOrder

@@ -1,7 +1,8 @@
 -- Document 01, "Search order": the steps that an order in two arrays holds, and those of the list modes.
 use Prim.Native.Nat.{ℕ, suc}
 use mathlib.Core.Bool.{_&&_}
-use mathlib.Core.List.{List, map}
+use mathlib.Core.List.{List, _∷_, map}
+use mathlib.Core.Path.{_≡_}
 use mathlib.Core.Option.{Option, none, some}
 use lib.Dec.{ltb}
 use lib.ListN.{getD}
@@ -10,6 +11,8 @@ use Rattle.rules.specs.Machine.{Machine}
 use Rattle.rules.specs.Masks.{has}
 use Rattle.rules.specs.SearchOrder.{Try, try, near}
 use Rattle.placement.specs.declared.grant.Order.{Order}
+use Rattle.placement.specs.declared.order.First.{First}
+use Rattle.placement.specs.declared.order.First.the-variants.{At, Unknown}
 use Rattle.placement.specs.Grants.{stepsOf}
 
 -- the steps of an order
@@ -32,3 +35,8 @@ ringSteps places len c k = map (λ p. try (suc p) (getD places p 0)) (around len
 abbrev pub targetSteps : Machine → ℕ → Option ℕ → ℕ → ℕ → List Try
 targetSteps m limit none c x = map (try c) (near m limit x)
 targetSteps m limit (some t) c x = map (try (suc t)) (near m limit t)
+
+-- an order starts with this step, where one is named
+unfoldable pub Starts : First → List Try → Type 0
+Starts (At n c) ss = (rest : List Try) × (ss ≡ try c (n .0) ∷ rest)
+Starts Unknown ss = Unit {0}

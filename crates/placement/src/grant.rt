@@ -1,10 +1,12 @@
 // The page of a node: its part of the page table, lent on to the page picker.
 
+ghost use mathlib.Core.Option.{none};
 ghost use mathlib.Core.Path.{_≡_};
 ghost use Prim.Native.Nat.{ℕ, _≤_, _<_};
 ghost use lib.ListN.{length, getD};
 ghost use Rattle.rules.specs.Basics.{sum};
-ghost use Rattle.placement.specs.Grants.{Fits, pageFound, lowestFree, firstGiven, markGiven, givenOf, stepsOf};
+ghost use Rattle.placement.specs.Grants.{Fits, pageFound, lowestFree, givenAt, firstGiven, markGiven, givenOf, stepsOf};
+ghost use Rattle.rules.specs.SearchOrder.{try};
 ghost use Rattle.pages.specs.FirstZero.{mark};
 use machine;
 use pages;
@@ -46,6 +48,19 @@ pub fn take_page(counts: &[u32], pages: &mut [u8], node: Node, holder: u8) -> Fo
     match found {
         Found::At(i) => Found::At(start + i),
         Found::Full => Found::Full,
+    }
+}
+
+// Grants the lowest free page of one node.
+pub fn grant_one(counts: &[u32], pages: &mut [u8], node: Node, cursor: u8, holder: u8) -> Grant
+    requires { ⌜ Fits (now counts) (now pages) × (node .0 < length (now counts)) ⌝ }
+    ensures answer { λ r. ⌜ givenOf r ≡ givenAt (try cursor (node .0)) (lowestFree (now (counts .entry)) (now (pages .entry)) (node .0)) none ⌝ }
+    ensures table { λ r. ⌜ now (pages .exit) ≡ markGiven (now (pages .entry)) (givenOf r) holder ⌝ }
+{
+    let found = take_page(counts, pages, node, holder);
+    match found {
+        Found::At(page) => Grant::Taken(node, Page(page as u32), cursor),
+        Found::Full => Grant::Nothing,
     }
 }
 

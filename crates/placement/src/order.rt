@@ -9,8 +9,8 @@ ghost use Rattle.rules.specs.Basics.{first, keep, around};
 ghost use Rattle.rules.specs.Machine.{Machine, nodeCount};
 ghost use Rattle.rules.specs.Masks.{maskBits, has, isNone, both, lowest};
 ghost use Rattle.rules.specs.Records.{wellFormed};
-ghost use Rattle.rules.specs.SearchOrder.{near, try, order};
-ghost use Rattle.placement.specs.Orders.{stepsIn, triedIn, listSteps, ringSteps, targetSteps};
+ghost use Rattle.rules.specs.SearchOrder.{near, Try, try, order};
+ghost use Rattle.placement.specs.Orders.{stepsIn, triedIn, listSteps, ringSteps, targetSteps, Starts};
 ghost use Rattle.records.specs.Jobs.{jobOf};
 use super::grant::Order;
 use machine;
@@ -142,6 +142,108 @@ fn interleave_steps(
     match target {
         Found::At(node) => near_steps(nodes, distances, limit, node, node.0 + 1),
         Found::Nothing => near_steps(nodes, distances, limit, x, cursor),
+    }
+}
+
+// The first step of an order, where it is known without building the order.
+pub enum First {
+    At(Node, u8),
+    Unknown,
+}
+
+// x is the first node of near(x), if it is allowed.
+fn near_first(limit: Mask, x: Node, cursor: u8) -> First
+    ensures { λ r. ⌜ ((m : Machine) → Starts r (map (try cursor) (near m (limit .0) (x .0)))) ⌝ }
+{
+    if limit.has(x) {
+        return First::At(x, cursor);
+    }
+    First::Unknown
+}
+
+// A place comes first, if its node is one of the machine's and allowed.
+fn place_first(nodes: usize, limit: Mask, node: Node, cursor: u8) -> First
+    ensures { λ r. ⌜ ((rest : List Try) → Starts r (triedIn nodes (limit .0) (try cursor (node .0) ∷ rest))) ⌝ }
+{
+    if (node.0 as usize) < nodes {
+        if limit.has(node) {
+            return First::At(node, cursor);
+        }
+    }
+    First::Unknown
+}
+
+// The first step of a preferred search.
+fn preferred_first(limit: Mask, effective: Mask, x: Node) -> First
+    ensures { λ r. ⌜ ((m : Machine) → Starts r (map (try 0) (near m (limit .0) (cond (isNone (effective .0)) (x .0) (lowest maskBits (effective .0)))))) ⌝ }
+{
+    if effective.is_empty() {
+        return near_first(limit, x, 0);
+    }
+    near_first(limit, effective.lowest(), 0)
+}
+
+// The first step of a bound search.
+fn bind_first(limit: Mask, effective: Mask, x: Node) -> First
+    ensures { λ r. ⌜ ((m : Machine) → Starts r (map (try 0) (near m (cond (isNone (effective .0)) (limit .0) (both (limit .0) (effective .0))) (x .0)))) ⌝ }
+{
+    if effective.is_empty() {
+        return near_first(limit, x, 0);
+    }
+    near_first(limit.and(effective), x, 0)
+}
+
+// The first step of a ring: the place one past the cursor.
+fn ring_first(nodes: usize, limit: Mask, places: [u8; 16], len: u8, cursor: u8) -> First
+    requires { ⌜ (0 < len) × (len ≤ 16) ⌝ }
+    ensures { λ r. ⌜ Starts r (triedIn nodes (limit .0) (ringSteps places len cursor len)) ⌝ }
+{
+    let place = Place(cursor % len);
+    place_first(nodes, limit, node_at(places, place), cursor_at(place))
+}
+
+// The first step of a list: place 0.
+fn list_first(nodes: usize, limit: Mask, places: [u8; 16], len: u8) -> First
+    requires { ⌜ 0 < len ⌝ }
+    ensures { λ r. ⌜ Starts r (triedIn nodes (limit .0) (listSteps places 0 len)) ⌝ }
+{
+    place_first(nodes, limit, node_at(places, Place(0)), 0)
+}
+
+// The first step of an early search: place 0, with the cursor as it was.
+fn early_first(nodes: usize, limit: Mask, places: [u8; 16], len: u8, cursor: u8) -> First
+    ensures { λ r. ⌜ Starts r (triedIn nodes (limit .0) (try cursor (getD places 0 0) ∷ ringSteps places len cursor len)) ⌝ }
+{
+    place_first(nodes, limit, node_at(places, Place(0)), cursor)
+}
+
+// The first step of an interleaved search: the target, or x with no target.
+fn target_first(limit: Mask, effective: Mask, cursor: u8, x: Node) -> First
+    requires { ⌜ cursor ≤ maskBits ⌝ }
+    ensures { λ r. ⌜ ((m : Machine) → Starts r (targetSteps m (limit .0) (first (keep (has (effective .0)) (around maskBits cursor maskBits))) cursor (x .0))) ⌝ }
+{
+    let target = effective.next(cursor);
+    match target {
+        Found::At(node) => near_first(limit, node, node.0 + 1),
+        Found::Nothing => near_first(limit, x, cursor),
+    }
+}
+
+// The first step of a well-formed job's search order.
+pub fn first_step(nodes: usize, limit: Mask, job: Job, x: Node) -> First
+    requires { ⌜ (nodes ≤ maskBits) × (wellFormed nodes (jobOf job) ≡ true) × (jobOf job .user < 2 ^ maskBits) ⌝ }
+    ensures { λ r. ⌜ ((m : Machine) → nodeCount m ≡ nodes → Starts r (order m (limit .0) (jobOf job) (x .0))) ⌝ }
+{
+    let mode = job.mode;
+    let places = job.places;
+    match mode {
+        Mode::Default => near_first(limit, x, 0),
+        Mode::Preferred(_, _, effective) => preferred_first(limit, effective, x),
+        Mode::Bind(_, _, effective) => bind_first(limit, effective, x),
+        Mode::Interleave(_, _, effective, cursor) => target_first(limit, effective, cursor, x),
+        Mode::List(len) => list_first(nodes, limit, places, len),
+        Mode::Ring(len, cursor) => ring_first(nodes, limit, places, len, cursor),
+        Mode::Early(len, cursor) => early_first(nodes, limit, places, len, cursor),
     }
 }
 

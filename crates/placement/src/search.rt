@@ -1,6 +1,7 @@
 // The search of a request: the first node in the order with a free page, and its lowest free page, marked.
 
 ghost use mathlib.Core.Bool.{true};
+ghost use mathlib.Core.Option.{some};
 ghost use mathlib.Core.Path.{_≡_};
 ghost use Prim.Native.Nat.{_*_, _<_, _^_};
 ghost use lib.ListN.{length};
@@ -9,14 +10,35 @@ ghost use Rattle.rules.specs.Masks.{maskBits};
 ghost use Rattle.rules.specs.Records.{wellFormed};
 ghost use Rattle.rules.specs.SearchOrder.{order};
 ghost use Rattle.records.specs.Jobs.{jobOf};
-ghost use Rattle.placement.specs.Grants.{firstGiven, markGiven, givenOf};
+ghost use Rattle.placement.specs.Grants.{Fits, Given, firstGiven, markGiven, givenOf};
 ghost use Rattle.placement.specs.Searches.{Searches};
 use super::grant;
 use super::grant::Grant;
 use super::order;
+use super::order::First;
 use nodemask::Mask;
 use records::job::Job;
 use rules::Node;
+
+// Grants a page at the first step of the order, where that is known without building the order and has room.
+fn grant_at_once(
+    counts: &[u32],
+    pages: &mut [u8],
+    limit: Mask,
+    job: Job,
+    x: Node,
+    holder: u8,
+) -> Grant
+    requires { ⌜ Fits (now counts) (now pages) × (wellFormed (length (now counts)) (jobOf job) ≡ true) × (jobOf job .user < 2 ^ maskBits) × (limit .0 < 2 ^ length (now counts)) ⌝ }
+    ensures answer { λ r. ⌜ ((m : Machine) (g : Given) → m .pageCounts ≡ now (counts .entry) → givenOf r ≡ some g → firstGiven (now (counts .entry)) (now (pages .entry)) (order m (limit .0) (jobOf job) (x .0)) ≡ some g) ⌝ }
+    ensures table { λ r. ⌜ now (pages .exit) ≡ markGiven (now (pages .entry)) (givenOf r) holder ⌝ }
+{
+    let step = order::first_step(counts.len(), limit, job, x);
+    match step {
+        First::At(node, cursor) => grant::grant_one(counts, pages, node, cursor, holder),
+        First::Unknown => Grant::Nothing,
+    }
+}
 
 // Grants a page to a well-formed job from a CPU on node x. `limit` is the set of nodes that the job may get.
 pub fn grant_page(
@@ -32,6 +54,12 @@ pub fn grant_page(
     ensures answer { λ r. ⌜ ((m : Machine) → m .pageCounts ≡ now (counts .entry) → m .distances ≡ now (distances .entry) → givenOf r ≡ firstGiven (now (counts .entry)) (now (pages .entry)) (order m (limit .0) (jobOf job) (x .0))) ⌝ }
     ensures table { λ r. ⌜ now (pages .exit) ≡ markGiven (now (pages .entry)) (givenOf r) holder ⌝ }
 {
-    let search = order::search_order(counts.len(), distances, limit, job, x);
-    grant::grant_first(counts, pages, search, holder)
+    let quick = grant_at_once(counts, pages, limit, job, x, holder);
+    match quick {
+        Grant::Taken(node, page, cursor) => Grant::Taken(node, page, cursor),
+        Grant::Nothing => {
+            let search = order::search_order(counts.len(), distances, limit, job, x);
+            grant::grant_first(counts, pages, search, holder)
+        }
+    }
 }

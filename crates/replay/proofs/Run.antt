@@ -2,9 +2,7 @@
 -- Assumes nothing.
 use Prim.Native.Nat.{ℕ, suc, _+_, _≤_, _<_}
 use mathlib.Core.Path.{_≡_, refl, sym, ap, subst, _∙_}
-use mathlib.Core.Logic.{_↔_}
 use mathlib.Core.Bool.{true, false}
-use mathlib.Core.Option.{some}
 use mathlib.Core.List.{List, [], _∷_, _++_, map, append-assoc, map-append}
 use native.Mathlib.Numerals.{add-one}
 use native.Mathlib.Omega.{arith}
@@ -14,7 +12,6 @@ use lib.Seq.{take-suc, drop-cons, set-at, take-all, length-take-le}
 use Rattle.rules.specs.Machine.{Machine}
 use Rattle.rules.specs.Calls.{Answer, Tables, Outcome, Decision, refuse, accept, requestTablesOk}
 use Rattle.rules.specs.Book.{Call, clear, step, answers, final}
-use Rattle.rules.specs.Ledger.{lastStep, givenTo}
 use Rattle.rules.proofs.Book.{final-append, answers-append, page-owner}
 use Rattle.fairness.specs.Demand3.{Demand3}
 use Rattle.fairness.proofs.Fair.{demand3}
@@ -48,6 +45,7 @@ pub record Done (m : Machine) (t : Tables) (words out₀ : List ℕ) (i : ℕ) (
   pub tables : tablesOf ledger records ≡ final m t (take i (callsIn words))
   pub output : out ≡ written m t (take i (callsIn words)) ++ drop i out₀
 
+-- no call is done
 pub begun : (m : Machine) (ledger records words out : List ℕ) → Done m (tablesOf ledger records) words out 0 ledger records out
 unfolding final answers
 begun m ledger records words out = record { tables = refl; output = refl }
@@ -81,18 +79,22 @@ advance m t words out₀ i ledger records out ledger′ records′ a w coded inC
 
 -- the tests in their order
 module _ (m : Machine) (t : Tables) (words : List ℕ) (room : ℕ) where
+  -- 1, the tables
   pub tables-refused : requestTablesOk m t ≡ false → replayDecision m t words room ≡ refuse 1
   unfolding replayDecision
   tables-refused a = rw a
 
+  -- 13, the calls
   pub calls-refused : requestTablesOk m t ≡ true → callsOk words ≡ false → replayDecision m t words room ≡ refuse 13
   unfolding replayDecision
   calls-refused a b = rw (a, b)
 
+  -- 11, the room for the answers
   pub room-refused : requestTablesOk m t ≡ true → callsOk words ≡ true → room < callCount words → replayDecision m t words room ≡ refuse 11
   unfolding replayDecision
   room-refused a b l = rw (a, b, lt-leb (callCount words) room l)
 
+  -- none refuses: as many answers as calls
   pub accepted : requestTablesOk m t ≡ true → callsOk words ≡ true → callCount words ≤ room → replayDecision m t words room ≡ accept (callCount words)
   unfolding replayDecision
   accepted a b l = rw (a, b, le-leb (callCount words) room l)
@@ -127,17 +129,17 @@ pub replayed-belongs : (m : Machine) (t : Tables) (words out : List ℕ) (k n : 
 unfolding onReplay replaying
 replayed-belongs m t words out k n zeros ran = go (replayDecision m t words (length out)) ran
   where
-    Owner : List ℕ → ℕ → ℕ → Type 0
-    Owner l p j = let u : Tables = tablesOf l (t .records) in (getD (final m u (callsIn words) .ledger) p 0 ≡ j + 1) ↔ (givenTo (lastStep m u (callsIn words) p) ≡ some j)
+    Owned : Tables → Type 0
+    Owned u = Belongs m u (callsIn words) (final m u (callsIn words) .ledger)
 
     go : (d : Decision ℕ) → replaying m t words out d .answer ≡ accept n → Belongs m t (callsIn words) (replaying m t words out d .tables .ledger)
     go (refuse r) e = absurd (let z : _≡_ {A = ℕ} 0 1 = cc in omega arith)
-    go (accept i) e = λ p j. subst (λ (l : List ℕ). Owner l p j) (sym zeros) (page-owner m k (t .records) (callsIn words) p j)
+    go (accept i) e = subst (λ (l : List ℕ). Owned (tablesOf l (t .records))) (sym zeros) (page-owner m k (t .records) (callsIn words))
 
 -- a replay that is the run keeps demand 3, and demand 2's sentence of the ledger
-pub promises : (m : Machine) (t : Tables) (words out : List ℕ) (a : Decision ℕ) (ledger records output : List ℕ)
+pub fair-and-owned : (m : Machine) (t : Tables) (words out : List ℕ) (a : Decision ℕ) (ledger records output : List ℕ)
     → Replays (onReplay m t words out) a ledger records output
     → Replays (onReplay m t words out) a ledger records output
     × (Demand3 m t (callsIn words) × ((k n : ℕ) → t .ledger ≡ replicate k 0 → a ≡ accept n → Belongs m t (callsIn words) ledger))
-promises m t words out a ledger records output r =
+fair-and-owned m t words out a ledger records output r =
     (r, (demand3 m t (callsIn words), λ k n zeros ran. rw (r .ledgerIs) (replayed-belongs m t words out k n zeros (sym (r .answers) ∙ ran))))

@@ -1,59 +1,20 @@
--- One call: the tables that it needs are in order, and it is the call that its words say.
+-- One call: it is the call that its words say.
 -- Assumes nothing.
 use Prim.Native.Nat.{ℕ, _≤_}
 use mathlib.Core.Path.{_≡_}
-use mathlib.Core.Bool.{Bool, true, false, not, _&&_, _||_, false≢true}
+use mathlib.Core.Bool.{true, not, _||_}
 use mathlib.Core.List.{List}
 use borrow.Author.Tests.{leb-true, eq-eqb}
-use lib.ListN.{length, getD}
+use lib.ListN.{getD}
 use lib.Dec.{leb, eqb}
 use Rattle.rules.specs.Basics.{between}
-use Rattle.rules.specs.Machine.{Machine, nodeCount, nodesOk, pagesOk, cpusOk, distancesOk, pageTableOk, machineOk}
-use Rattle.rules.specs.Records.{jobTableOk}
-use Rattle.rules.specs.Calls.{Answer, Tables, Stored, requestTablesOk, releaseTablesOk, recordTablesOk, onRequest, onRelease, onRebind, onClear}
+use Rattle.rules.specs.Machine.{Machine, nodeCount}
+use Rattle.rules.specs.Calls.{Answer, Tables, Stored, onRequest, onRelease, onRebind, onClear}
 use Rattle.rules.specs.Book.{request, release, install, rebind, clear, step, withLedger}
 use Rattle.rules.specs.Journal.{kindOf}
 use Rattle.rules.proofs.Lists.{both-true}
 use Rattle.placement.specs.Lent.{Did}
 use Rattle.replay.specs.Encoding.{callPlaces, installIn, callOf, callIn, callOk}
-
--- ---- the tables stay in order
-
--- test 1 looks at the lengths of the page table and the job table only
-pub same-lengths-ok : (m : Machine) (t u : Tables) → length (u .ledger) ≡ length (t .ledger) → length (u .records) ≡ length (t .records)
-    → requestTablesOk m t ≡ true → requestTablesOk m u ≡ true
-unfolding requestTablesOk
-same-lengths-ok m t u e f h = rw (e, f) h
-
-release-tests : (nodes pages cpus distances bytes words : Bool) → (nodes && pages && cpus && distances && bytes && words) ≡ true
-    → (nodes && pages && bytes && words) ≡ true
-release-tests false p c d b w h = absurd (false≢true h)
-release-tests true false c d b w h = absurd (false≢true h)
-release-tests true true false d b w h = absurd (false≢true h)
-release-tests true true true false b w h = absurd (false≢true h)
-release-tests true true true true b w h = h
-
-record-tests : (nodes pages bytes words : Bool) → (nodes && pages && bytes && words) ≡ true → (nodes && words) ≡ true
-record-tests false p b w h = absurd (false≢true h)
-record-tests true false b w h = absurd (false≢true h)
-record-tests true true false w h = absurd (false≢true h)
-record-tests true true true w h = h
-
--- tables that are in order for a request are so for a release
-pub release-ok : (m : Machine) (t : Tables) → requestTablesOk m t ≡ true → releaseTablesOk (m .pageCounts) t ≡ true
-unfolding requestTablesOk releaseTablesOk machineOk
-release-ok m t h =
-    release-tests (nodesOk (nodeCount m)) (pagesOk (m .pageCounts)) (cpusOk (nodeCount m) (m .cpuNodes)) (distancesOk (nodeCount m) (m .distances))
-    (pageTableOk (m .pageCounts) (length (t .ledger))) (jobTableOk (length (t .records))) h
-
--- and for install, rebind and clear
-pub record-ok : (m : Machine) (t : Tables) → requestTablesOk m t ≡ true → recordTablesOk (nodeCount m) (length (t .records)) ≡ true
-unfolding releaseTablesOk recordTablesOk
-record-ok m t h =
-    record-tests (nodesOk (nodeCount m)) (pagesOk (m .pageCounts)) (pageTableOk (m .pageCounts) (length (t .ledger))) (jobTableOk (length (t .records)))
-    (release-ok m t h)
-
--- ---- the call that the words say
 
 -- a call in order has a known kind
 pub known-kind : (call : List ℕ) → callOk call ≡ true → (1 ≤ getD call 0 0) × (getD call 0 0 ≤ 5)

@@ -21,16 +21,16 @@ use Rattle.replay.specs.Encoding.{callWords, callPlaces, placesIn, callI
 
 -- ---- the places of a call
 
--- byte k of word i of some words, counted through
-pub words-byte : (ws : List ℕ) (i : ℕ) → i < 8 * length ws → getD (each (bytesOf 8) ws) i 0 ≡ getD ws (i / 8) 0 / 2 ^ (8 * (i % 8)) % 256
+-- place i of some words, eight to a word, is byte i % 8 of word i / 8
+abbrev ByteAt : List ℕ → ℕ → Type 0
+ByteAt ws i = getD (each (bytesOf 8) ws) i 0 ≡ getD ws (i / 8) 0 / 2 ^ (8 * (i % 8)) % 256
+
+words-byte : (ws : List ℕ) (i : ℕ) → i < 8 * length ws → ByteAt ws i
 unfolding each
 words-byte [] i h = absurd (omega arith)
 words-byte (w ∷ ws) i h = go (ltb i 8) refl (λ k l. words-byte ws k l)
   where
-    Right : ℕ → Type 0
-    Right i = getD (bytesOf 8 w ++ each (bytesOf 8) ws) i 0 ≡ getD (w ∷ ws) (i / 8) 0 / 2 ^ (8 * (i % 8)) % 256
-
-    go : (b : Bool) → ltb i 8 ≡ b → ((k : ℕ) → k < 8 * length ws → getD (each (bytesOf 8) ws) k 0 ≡ getD ws (k / 8) 0 / 2 ^ (8 * (k % 8)) % 256) → Right i
+    go : (b : Bool) → ltb i 8 ≡ b → ((k : ℕ) → k < 8 * length ws → ByteAt ws k) → ByteAt (w ∷ ws) i
     go true t ih =
         let l : i < 8 = ltb-true i 8 t in
         let q : i / 8 ≡ 0 = omega arith in

@@ -13,8 +13,8 @@ use encoding::CALL_WORDS;
 use placement;
 use rules::Refusal;
 
-pub mod encoding;
-pub mod step;
+mod encoding;
+mod step;
 
 // How many calls ran, or why none did.
 pub enum Replayed {

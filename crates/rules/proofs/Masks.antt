@@ -9,7 +9,7 @@ use native.Mathlib.Numerals.{add-one, one-add}
 use native.Mathlib.Omega.{arith}
 use lib.Arith.{digits-mod}
 use native.Mathlib.Decide.{le-ind, ℕ-discrete, decLt}
-use native.Mathlib.Nat.{add-suc, lt-of-not-le, add-sub-of-le, eq-or-lt-of-le, div-self, div-one, lt-irrefl, div-lt-iff-lt-mul, sub-le}
+use native.Mathlib.Nat.{add-suc, lt-of-not-le, add-sub-of-le, eq-or-lt-of-le, div-self, div-one, lt-irrefl, div-lt-iff-lt-mul, sub-le, mod-add-mod, mod-self}
 use lib.Pow.{not-mod, ones-lt, pow-pos, pow-mono, pow-lt, pow-add, mod-pow-add, shr-shr, shr-le}
 use lib.Bits.{bitXor, differ, xor-step, xor-shr, xor-add-and, bitAnd, bitOr, and-step, or-step, and-shr, or-shr, and-mask, and-high, or-lt, and-le-l, or-add-and, and-comm}
 use lib.Count.{ones, ones-cat, trailingZeros, under}
@@ -626,3 +626,30 @@ has-or a b n = ap (λ (x : ℕ). eqb x 1) (bit-or a b n) ∙ go (bit-cases a n) 
     go (inl x) (inr y) = rw (x, y)
     go (inr x) (inl y) = rw (x, y)
     go (inr x) (inr y) = rw (x, y)
+
+-- ---- the node of the next rank, once round
+
+module _ (w m r : ℕ) (p : 0 < m) (h : m < 2 ^ w) where
+  -- the rank after r mod the size
+  rank-after : (r + 1) % rank m w ≡ (r % rank m w + 1) % rank m w
+  rank-after = sym (mod-add-mod r (rank m w) 1)
+
+  -- the ones up to and with the node of rank r mod the size
+  rank-up-to : rank m (select w m (r % rank m w) + 1) ≡ r % rank m w + 1
+  rank-up-to = let i = select-mod w m r p h in rank-next m (select w m (r % rank m w)) ∙ omega (arith, i .member, i .ranked)
+
+  -- it lies above, if a node does
+  pub next-rank-above : 0 < m / 2 ^ (select w m (r % rank m w) + 1)
+      → select w m (r % rank m w) + 1 + trailingZeros w (m / 2 ^ (select w m (r % rank m w) + 1)) ≡ select w m ((r + 1) % rank m w)
+  next-rank-above q =
+      let n : ℕ = select w m (r % rank m w) in
+      let t = trailing-from w m (n + 1) h q in
+      let more : r % rank m w + 1 < rank m w = omega (arith, rank-lt m (t .small) (t .member), t .ranked, rank-up-to) in
+      sym (ap (select w m) (rank-after ∙ mod-eq-of-lt more) ∙ select-at w m _ (r % rank m w + 1) (t .small) (t .member) (t .ranked ∙ rank-up-to))
+
+  -- else it is the lowest
+  pub next-rank-round : m / 2 ^ (select w m (r % rank m w) + 1) ≡ 0 → select w m 0 ≡ select w m ((r + 1) % rank m w)
+  next-rank-round e =
+      let n : ℕ = select w m (r % rank m w) in
+      let all : rank m w ≡ r % rank m w + 1 = rank-all w m (n + 1) h (omega (arith, select-mod w m r p h .small)) e ∙ rank-up-to in
+      ap (select w m) (sym (rank-after ∙ ap (λ (x : ℕ). x % rank m w) (sym all) ∙ mod-self (rank m w)))

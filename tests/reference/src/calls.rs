@@ -254,15 +254,9 @@ pub enum Call {
 /// Makes one call on the tables, N given apart for install, rebind and clear (Refusal numbers).
 pub fn apply_with(nodes: usize, tables: &mut Tables, call: &Call) -> Answer {
     match call {
-        Call::Request { job, cpu } => request(
-            &tables.counts,
-            &tables.cpus,
-            &tables.distances,
-            &mut tables.pages,
-            &mut tables.jobs,
-            *job,
-            *cpu,
-        ),
+        Call::Request { job, cpu } => {
+            request(&tables.counts, &tables.cpus, &tables.distances, &mut tables.pages, &mut tables.jobs, *job, *cpu)
+        }
         Call::Release { job, page } => release(&tables.counts, &mut tables.pages, &mut tables.jobs, *job, *page),
         Call::Install { job, mode, flag, mask, places } => {
             install(nodes, &mut tables.jobs, *job, *mode, *flag, *mask, places)

@@ -122,9 +122,8 @@ fn mask_examples() {
 #[test]
 fn sixteen_places_and_node_63() {
     let mut tables = machine_a();
-    let mut install = |places: Vec<u8>| {
-        apply(&mut tables, &Call::Install { job: 0, mode: 5, flag: 0, mask: 0, places })
-    };
+    let mut install =
+        |places: Vec<u8>| apply(&mut tables, &Call::Install { job: 0, mode: 5, flag: 0, mask: 0, places });
     assert_eq!(install(vec![0; 16]), Answer::Done);
     assert_eq!(install(vec![0; 17]), Answer::Refused(6));
     let node_63 = 1u64 << 63;

@@ -291,11 +291,7 @@ fn wild_install(dice: &mut Dice, nodes: usize, job: usize) -> Call {
 /// A rebind that is accepted; mostly to many nodes.
 fn good_rebind(dice: &mut Dice, nodes: usize, job: usize) -> Call {
     let all = all_below(nodes);
-    let allowed = if dice.chance(35) {
-        all
-    } else {
-        dice.part_of(all) | dice.part_of(all)
-    };
+    let allowed = if dice.chance(35) { all } else { dice.part_of(all) | dice.part_of(all) };
     Call::Rebind { job, allowed }
 }
 
@@ -1520,8 +1516,26 @@ mod tests {
         println!("{shown:?}");
         assert_eq!(shown.refusals, BTreeSet::from([0, 1, 2, 3, 5, 6, 7, 8, 10, 13]));
         let by_kind = [
-            (1, 0), (1, 2), (1, 3), (1, 8), (2, 0), (2, 2), (2, 10), (3, 0), (3, 2), (3, 6), (3, 7), (4, 0), (4, 2),
-            (4, 5), (4, 6), (4, 7), (5, 0), (5, 2), (0xFF, 1), (0xFF, 13),
+            (1, 0),
+            (1, 2),
+            (1, 3),
+            (1, 8),
+            (2, 0),
+            (2, 2),
+            (2, 10),
+            (3, 0),
+            (3, 2),
+            (3, 6),
+            (3, 7),
+            (4, 0),
+            (4, 2),
+            (4, 5),
+            (4, 6),
+            (4, 7),
+            (5, 0),
+            (5, 2),
+            (0xFF, 1),
+            (0xFF, 13),
         ];
         assert_eq!(shown.refusals_of_kind, BTreeSet::from(by_kind));
         assert_eq!(shown.installed, all_modes_and_flags());
@@ -1560,9 +1574,8 @@ mod tests {
             most_cpus += usize::from(start.cpus.len() == 64);
             unreachable += usize::from(start.distances.contains(&255));
             second_tens += usize::from(start.distances.iter().filter(|far| **far == 10).count() > nodes);
-            let there_and_back = |from: usize, to: usize| {
-                start.distances[from * nodes + to] != start.distances[to * nodes + from]
-            };
+            let there_and_back =
+                |from: usize, to: usize| start.distances[from * nodes + to] != start.distances[to * nodes + from];
             one_way += usize::from((0..nodes).any(|from| (0..nodes).any(|to| there_and_back(from, to))));
         }
         for count in [zero_pages, most_pages, unreachable, one_way, second_tens, most_cpus] {
@@ -1657,13 +1670,39 @@ mod tests {
                 assert!(well_formed(tables.counts.len(), &read(&after.jobs, *job)));
             }
             let policy_done = kind >= 3 && answer == Answer::Done;
-            if let (Call::Install { job, .. } | Call::Rebind { job, .. } | Call::Clear { job }, true) = (&call, policy_done) {
+            if let (Call::Install { job, .. } | Call::Rebind { job, .. } | Call::Clear { job }, true) =
+                (&call, policy_done)
+            {
                 assert!(well_formed(nodes, &read(&after.jobs, *job)), "seed {seed}");
             }
         }
         let expected = [
-            (1, 0), (1, 1), (1, 2), (1, 3), (1, 4), (1, 8), (2, 0), (2, 1), (2, 2), (2, 10), (3, 0), (3, 1), (3, 2),
-            (3, 4), (3, 6), (3, 7), (4, 0), (4, 1), (4, 2), (4, 4), (4, 5), (4, 6), (4, 7), (5, 0), (5, 1), (5, 2),
+            (1, 0),
+            (1, 1),
+            (1, 2),
+            (1, 3),
+            (1, 4),
+            (1, 8),
+            (2, 0),
+            (2, 1),
+            (2, 2),
+            (2, 10),
+            (3, 0),
+            (3, 1),
+            (3, 2),
+            (3, 4),
+            (3, 6),
+            (3, 7),
+            (4, 0),
+            (4, 1),
+            (4, 2),
+            (4, 4),
+            (4, 5),
+            (4, 6),
+            (4, 7),
+            (5, 0),
+            (5, 1),
+            (5, 2),
         ];
         assert_eq!(shown, BTreeSet::from(expected));
         assert_eq!(granted, all_modes_and_flags());

@@ -97,9 +97,7 @@ fn tables_of(nodes: usize, cpu_count: usize, journal: &[u8]) -> Tables {
 /// "the other rules" of the machine record (The journal program, The machine).
 fn machine_keeps_the_rules(tables: &Tables) -> bool {
     let nodes = tables.counts.len();
-    all_pages(&tables.counts) <= MOST_PAGES
-        && cpus_fit(nodes, &tables.cpus)
-        && distances_fit(nodes, &tables.distances)
+    all_pages(&tables.counts) <= MOST_PAGES && cpus_fit(nodes, &tables.cpus) && distances_fit(nodes, &tables.distances)
 }
 
 /// The machine record: head, then N and CPU count, then shortness, then the other rules (The journal program).

@@ -157,9 +157,7 @@ fn masks_are_good(nodes: usize, record: &Record) -> bool {
     }
     match record.flag {
         NO_FLAG => {
-            lies_below(record.user, nodes)
-                && record.effective != 0
-                && lies_within(record.effective, record.allowed)
+            lies_below(record.user, nodes) && record.effective != 0 && lies_within(record.effective, record.allowed)
         }
         STATIC => lies_below(record.user, nodes) && record.effective == record.user & record.allowed,
         RELATIVE => record.effective == folded(record.user, record.allowed),
@@ -236,10 +234,8 @@ mod tests {
 
     #[test]
     fn words_and_fields_agree() {
-        let jobs: Vec<u64> = vec![
-            0, 0, 0, 0, 0, 0,
-            0x0000_0001_0403_0205, 7, 8, 9, 0x0807_0605_0403_0201, 0x100F_0E0D_0C0B_0A09,
-        ];
+        let jobs: Vec<u64> =
+            vec![0, 0, 0, 0, 0, 0, 0x0000_0001_0403_0205, 7, 8, 9, 0x0807_0605_0403_0201, 0x100F_0E0D_0C0B_0A09];
         let record = read(&jobs, 1);
         assert_eq!(record.mode, 5);
         assert_eq!(record.flag, 2);

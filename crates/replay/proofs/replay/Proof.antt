@@ -14,8 +14,8 @@ use Rattle.machine.specs.Tables.{machineOf}
 use Rattle.placement.specs.Lent.{tablesOf}
 use Rattle.replay.specs.Encoding.{callCount, callOk, callsOk}
 use Rattle.replay.proofs.Words.{part-words, words-whole, call-ok}
-use Rattle.replay.proofs.Said.{same-lengths-ok}
-use Rattle.replay.proofs.Run.{Done, begun, advance, tables-refused, calls-refused, room-refused, accepted, finished, stopped, promises}
+use Rattle.placement.proofs.InOrder.{same-lengths-ok}
+use Rattle.replay.proofs.Run.{Done, begun, advance, tables-refused, calls-refused, room-refused, accepted, finished, stopped, fair-and-owned}
 use Rattle.replay.proofs.replay.Statement.{statement}
 use Rattle.replay.proofs.replay.Tie as tie
 
@@ -52,7 +52,7 @@ request-tables-ok-requires c κs = search needs
 returns : tie.Need-returns Inv-loop μ-loop
 returns c =
     let s = c .before .before .before .before .before .before .before .before .before in
-    promises (machine s) (tables s) _ (s .args .answers .now) _ _ _ _
+    fair-and-owned (machine s) (tables s) _ (s .args .answers .now) _ _ _ _
     (stopped _ _ _ (s .args .calls .now) _ _ (tables-refused _ _ _ _ (sym (c .before .request-tables-ok .ensures _ refl refl) ∙ not-true _ (c .if1 .taken))))
 
 calls-ok-requires : tie.Need-calls-ok-requires Inv-loop μ-loop
@@ -61,13 +61,13 @@ calls-ok-requires c κs = search needs
 returns-2 : tie.Need-returns-2 Inv-loop μ-loop
 returns-2 c =
     let s = c .before .before .before .before .before .before .before .before .before .before .before in
-    promises (machine s) (tables s) (s .args .calls .now) (s .args .answers .now) _ _ _ _
+    fair-and-owned (machine s) (tables s) (s .args .calls .now) (s .args .answers .now) _ _ _ _
     (stopped _ _ _ _ _ _ (calls-refused _ _ _ _ (tables-ok (c .before .before)) (sym (c .before .calls-ok .ensures) ∙ not-true _ (c .if2 .taken))))
 
 returns-3 : tie.Need-returns-3 Inv-loop μ-loop
 returns-3 c =
     let s = c .before .before .before .before .before .before .before .before .before .before .before .before in
-    promises (machine s) (tables s) (s .args .calls .now) (s .args .answers .now) _ _ _ _
+    fair-and-owned (machine s) (tables s) (s .args .calls .now) (s .args .answers .now) _ _ _ _
     (stopped _ _ _ _ _ _ (room-refused _ _ _ _ (tables-ok (c .before .before .before)) (calls-ok (c .before)) (c .if3 .taken)))
 
 loop-holds : tie.Need-loop-holds Inv-loop μ-loop
@@ -146,7 +146,7 @@ returns-4 c =
     let s = c .before .before .before .before .before .before .before .before .before .before .before .before .before .before in
     let h = c .before .loop in
     let e : h .i ≡ callCount (s .args .calls .now) = omega arith in
-    promises (machine s) (tables s) (s .args .calls .now) (s .args .answers .now) _ _ _ _
+    fair-and-owned (machine s) (tables s) (s .args .calls .now) (s .args .answers .now) _ _ _ _
     (finished _ _ _ _ _ _ _ _ (accepted _ _ _ _ (tables-ok (c .before .before .before .before .before)) (calls-ok (c .before .before .before)) (c .before .before .if3 .left)) (rw e at (h .inv .done)))
 
 pub replay-spec : {M : Type 1} → statement M

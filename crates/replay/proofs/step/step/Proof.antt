@@ -4,7 +4,8 @@ use mathlib.Core.Path.{refl}
 use native.Mathlib.Omega.{arith}
 use Rattle.rules.specs.Machine.{Machine}
 use Rattle.machine.specs.Tables.{machineOf}
-use Rattle.replay.proofs.Said.{release-ok, record-ok, known-kind, places-fit, did-request, did-release, did-rebind, did-install, did-clear}
+use Rattle.placement.proofs.InOrder.{release-ok, record-ok}
+use Rattle.replay.proofs.Said.{known-kind, places-fit, did-request, did-release, did-rebind, did-install, did-clear}
 use borrow.Author.Needs.{needs}
 use Rattle.replay.proofs.step.step.Statement.{statement}
 use Rattle.replay.proofs.step.step.Tie as tie

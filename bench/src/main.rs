@@ -1,0 +1,117 @@
+//! Prints nanoseconds per call and ratios as Markdown. The ways take turns; an argument says how many rounds.
+
+use std::hint::black_box;
+use std::time::{Duration, Instant};
+
+use bench::fast;
+use bench::search::{lowest_zero, lowest_zero_by_bytes, lowest_zero_by_memchr};
+use bench::ways::{run, WAYS};
+use bench::works::{works, Work};
+use reference::calls::Tables;
+
+/// Calls are timed in pieces, so that a busy machine spoils few of them; the best time of each piece counts.
+const PIECE: usize = 256;
+
+fn main() {
+    let rounds = std::env::args().nth(1).and_then(|rounds| rounds.parse().ok()).unwrap_or(15);
+    println!("Nanoseconds per call, best of {rounds} rounds; ratio = proved library / careful Rust.");
+    println!("Nodes have 65,536 pages, at N = 64 16,384: that is all there may be.\n");
+    println!("| N | workload | calls | single: library | Rust | ratio | replay: library | Rust | ratio |");
+    println!("|---|---|---|---|---|---|---|---|---|");
+    for nodes in [4, 16, 64] {
+        for work in works(nodes) {
+            println!("{}", row(&work, rounds));
+        }
+    }
+    println!("\nThe page search: a request on one node of 65,536 pages, all held but one; nanoseconds.\n");
+    println!("| free page | request: library | Rust | ratio | blocks alone | library / blocks | memchr alone | library / memchr | byte by byte |");
+    println!("|---|---|---|---|---|---|---|---|---|");
+    for place in [3, 100, 1_000, 16_000, 65_535] {
+        println!("{}", search_row(place, 4 * rounds));
+    }
+}
+
+/// Runs all ways in turns; every round must answer and leave the same.
+fn row(work: &Work, rounds: usize) -> String {
+    let mut best = vec![[Duration::MAX; WAYS.len()]; work.calls.len().div_ceil(PIECE)];
+    let mut agreed: Option<(Tables, Vec<u64>)> = None;
+    for _ in 0..rounds {
+        for (way, name) in WAYS.into_iter().enumerate() {
+            let mut tables = work.start.clone();
+            let mut answers = vec![0; work.calls.len()];
+            let pieces = work.calls.chunks(PIECE).zip(work.words.chunks(16 * PIECE)).zip(answers.chunks_mut(PIECE));
+            for (((calls, words), answers), best) in pieces.zip(&mut best) {
+                best[way] = best[way].min(run(name, &mut tables, calls, words, answers));
+            }
+            match &agreed {
+                None => agreed = Some((tables, answers)),
+                Some((left, answered)) => {
+                    let same = *answered == answers && *left == tables;
+                    assert!(same, "{name:?} differs in {} N {}", work.name, work.nodes);
+                }
+            }
+        }
+    }
+    let each = [0, 1, 2, 3].map(|way| {
+        let all: Duration = best.iter().map(|piece| piece[way]).sum();
+        all.as_nanos() as f64 / work.calls.len() as f64
+    });
+    format!(
+        "| {} | {} | {} | {:.1} | {:.1} | {:.2} | {:.1} | {:.1} | {:.2} |",
+        work.nodes,
+        work.name,
+        work.calls.len(),
+        each[0],
+        each[1],
+        each[0] / each[1],
+        each[2],
+        each[3],
+        each[2] / each[3],
+    )
+}
+
+/// Nanoseconds of one turn, out of some hundred.
+fn each(mut turn: impl FnMut()) -> f64 {
+    let turns = 400;
+    let begin = Instant::now();
+    for _ in 0..turns {
+        turn();
+    }
+    begin.elapsed().as_nanos() as f64 / f64::from(turns)
+}
+
+/// Requests that find the free page at a place, beside the search alone.
+fn search_row(place: usize, rounds: usize) -> String {
+    let mut pages = vec![77; 65_536];
+    let mut jobs = vec![0, 0, 1, 0, 0, 0];
+    let mut best = [f64::MAX; 5];
+    for _ in 0..rounds {
+        let library = each(|| {
+            pages[place] = 0;
+            black_box(spirerivet::request(&[65_536], &[0], &[10], &mut pages, &mut jobs, 0, 0));
+        });
+        let rust = each(|| {
+            pages[place] = 0;
+            black_box(fast::request(&[65_536], &[0], &[10], &mut pages, &mut jobs, 0, 0));
+        });
+        pages[place] = 0;
+        let blocks = each(|| {
+            black_box(lowest_zero(black_box(&pages)));
+        });
+        let memchr = each(|| {
+            black_box(lowest_zero_by_memchr(black_box(&pages)));
+        });
+        let bytes = each(|| {
+            black_box(lowest_zero_by_bytes(black_box(&pages)));
+        });
+        for (least, time) in best.iter_mut().zip([library, rust, blocks, memchr, bytes]) {
+            *least = least.min(time);
+        }
+    }
+    let [library, rust, blocks, memchr, bytes] = best;
+    let ratios = [rust, blocks, memchr].map(|time| library / time);
+    format!(
+        "| {place} | {library:.1} | {rust:.1} | {:.2} | {blocks:.1} | {:.2} | {memchr:.1} | {:.2} | {bytes:.1} |",
+        ratios[0], ratios[1], ratios[2]
+    )
+}

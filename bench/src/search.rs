@@ -1,0 +1,59 @@
+//! The lowest zero byte, as memchr finds it: whole blocks first.
+
+/// Is there a zero in the block? No early exit, so that it becomes vectors.
+fn has_zero(block: &[u8]) -> bool {
+    block.iter().fold(false, |found, byte| found | (*byte == 0))
+}
+
+/// The place of the lowest zero: blocks of 128, then of 16, then bytes.
+pub fn lowest_zero(bytes: &[u8]) -> Option<usize> {
+    let mut at = 0;
+    for size in [128, 16] {
+        for block in bytes[at..].chunks_exact(size) {
+            if has_zero(block) {
+                break;
+            }
+            at += size;
+        }
+    }
+    bytes[at..].iter().position(|byte| *byte == 0).map(|more| at + more)
+}
+
+/// The same, byte by byte.
+pub fn lowest_zero_by_bytes(bytes: &[u8]) -> Option<usize> {
+    bytes.iter().position(|byte| *byte == 0)
+}
+
+#[allow(unsafe_code)]
+mod c {
+    extern "C" {
+        fn memchr(bytes: *const u8, byte: i32, length: usize) -> *const u8;
+    }
+
+    /// The same, by the C library.
+    pub fn lowest_zero_by_memchr(bytes: &[u8]) -> Option<usize> {
+        // SAFETY: memchr reads no byte outside the slice.
+        let found = unsafe { memchr(bytes.as_ptr(), 0, bytes.len()) };
+        (!found.is_null()).then(|| found as usize - bytes.as_ptr() as usize)
+    }
+}
+pub use c::lowest_zero_by_memchr;
+
+#[cfg(test)]
+mod tests {
+    use super::*;
+
+    #[test]
+    fn every_place_of_every_length() {
+        for length in 0..300 {
+            let mut bytes = vec![7; length];
+            assert_eq!(lowest_zero(&bytes), None);
+            assert_eq!(lowest_zero_by_memchr(&bytes), None);
+            for place in (0..length).rev() {
+                bytes[place] = 0;
+                assert_eq!(lowest_zero(&bytes), Some(place));
+                assert_eq!(lowest_zero_by_memchr(&bytes), Some(place));
+            }
+        }
+    }
+}

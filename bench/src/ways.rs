@@ -1,0 +1,100 @@
+//! The four ways to run the same calls.
+
+use std::time::{Duration, Instant};
+
+use reference::calls::{Call, Tables};
+use spirerivet::Answer;
+
+use crate::fast::{self, Out};
+
+/// Who runs the calls, and how.
+#[derive(Clone, Copy, Debug, PartialEq, Eq)]
+pub enum Way {
+    LibraryCalls,
+    FastCalls,
+    LibraryReplay,
+    FastReplay,
+}
+
+pub const WAYS: [Way; 4] = [Way::LibraryCalls, Way::FastCalls, Way::LibraryReplay, Way::FastReplay];
+
+/// The words of a call for replay.
+pub fn words_of(call: &Call) -> [u64; 16] {
+    let wide = |number: &usize| *number as u64;
+    let call = match call {
+        Call::Request { job, cpu } => spirerivet::Call::Request { job: wide(job), cpu: wide(cpu) },
+        Call::Release { job, page } => spirerivet::Call::Release { job: wide(job), page: wide(page) },
+        Call::Rebind { job, allowed } => spirerivet::Call::Rebind { job: wide(job), allowed: *allowed },
+        Call::Install { job, mode, flag, mask, places } => {
+            spirerivet::Call::Install { job: wide(job), mode: *mode, flag: *flag, mask: *mask, places }
+        }
+        Call::Clear { job } => spirerivet::Call::Clear { job: wide(job) },
+    };
+    spirerivet::words_of(&call).expect("at most 64 places")
+}
+
+/// The library's answer as a word.
+fn word_of(answer: Answer) -> u64 {
+    let out = match answer {
+        Answer::Granted { node, page } | Answer::Released { node, page } => Out { refusal: 0, node, page },
+        Answer::Done => Out { refusal: 0, node: 255, page: u32::MAX },
+        Answer::Refused(refusal) => Out { refusal: refusal.number(), node: 255, page: u32::MAX },
+    };
+    out.word()
+}
+
+/// One call by the library.
+fn library_call(nodes: usize, tables: &mut Tables, call: &Call) -> u64 {
+    let Tables { counts, cpus, distances, pages, jobs } = tables;
+    word_of(match call {
+        Call::Request { job, cpu } => spirerivet::request(counts, cpus, distances, pages, jobs, *job, *cpu),
+        Call::Release { job, page } => spirerivet::release(counts, pages, jobs, *job, *page),
+        Call::Install { job, mode, flag, mask, places } => {
+            spirerivet::install(nodes, jobs, *job, *mode, *flag, *mask, places)
+        }
+        Call::Rebind { job, allowed } => spirerivet::rebind(nodes, jobs, *job, *allowed),
+        Call::Clear { job } => spirerivet::clear(nodes, jobs, *job),
+    })
+}
+
+/// One call by the fast implementation.
+pub fn fast_call(nodes: usize, tables: &mut Tables, call: &Call) -> u64 {
+    let Tables { counts, cpus, distances, pages, jobs } = tables;
+    let out = match call {
+        Call::Request { job, cpu } => fast::request(counts, cpus, distances, pages, jobs, *job, *cpu),
+        Call::Release { job, page } => fast::release(counts, pages, jobs, *job, *page),
+        Call::Install { job, mode, flag, mask, places } => {
+            fast::install(nodes, jobs, *job, *mode, *flag, *mask, places)
+        }
+        Call::Rebind { job, allowed } => fast::rebind(nodes, jobs, *job, *allowed),
+        Call::Clear { job } => fast::clear(nodes, jobs, *job),
+    };
+    out.word()
+}
+
+/// Runs all calls in one way and gives the time; the answers and the tables are left to be compared.
+pub fn run(way: Way, tables: &mut Tables, calls: &[Call], words: &[u64], answers: &mut [u64]) -> Duration {
+    let nodes = tables.counts.len();
+    let begin = Instant::now();
+    match way {
+        Way::LibraryCalls => {
+            for (call, answer) in calls.iter().zip(answers) {
+                *answer = library_call(nodes, tables, call);
+            }
+        }
+        Way::FastCalls => {
+            for (call, answer) in calls.iter().zip(answers) {
+                *answer = fast_call(nodes, tables, call);
+            }
+        }
+        Way::LibraryReplay => {
+            let Tables { counts, cpus, distances, pages, jobs } = tables;
+            spirerivet::replay(counts, cpus, distances, pages, jobs, words, answers).expect("a good list");
+        }
+        Way::FastReplay => {
+            let Tables { counts, cpus, distances, pages, jobs } = tables;
+            fast::replay(counts, cpus, distances, pages, jobs, words, answers).expect("a good list");
+        }
+    }
+    begin.elapsed()
+}

@@ -1,0 +1,73 @@
+-- `main` goes by the verdict on the machine record.
+-- Assumes nothing.
+use mathlib.Core.Path.{_≡_, sym, ap, _∙_}
+use native.Mathlib.Omega.{arith}
+use lib.ListN.{length}
+use lib.Seq.{length-take-le}
+use Rattle.journal.specs.Enums.{openingOf}
+use borrow.Author.Needs.{needs}
+use Rattle.placer.proofs.main.Statement.{statement}
+use Rattle.placer.proofs.main.Tie as tie
+
+opening-buffer-requires : tie.Need-opening-buffer-requires
+opening-buffer-requires c κs = search needs
+
+slice-aggregate-read-opening : tie.Need-slice-aggregate-read-opening
+slice-aggregate-read-opening c = search needs
+
+read-opening-requires : tie.Need-read-opening-requires
+read-opening-requires c κs = search needs
+
+array-share-prefix-buffer : tie.Need-array-share-prefix-buffer
+array-share-prefix-buffer c = search needs
+
+slice-aggregate-bytes : tie.Need-slice-aggregate-bytes
+slice-aggregate-bytes c =
+    let long : length (c .before .before .read-opening .last .0) ≡ 358 = search needs in
+    sym (length-take-le (c .before .before .read-opening .result) _ (omega arith))
+
+verdict-requires : tie.Need-verdict-requires
+verdict-requires c κs = search needs
+
+enum-known-found : tie.Need-enum-known-found
+enum-known-found c = search needs
+
+answer-records-requires : tie.Need-answer-records-requires
+answer-records-requires c κs = sym (c .before .before .before .verdict .ensures) ∙ ap openingOf (c .before .found .given .1)
+
+enum-known-found-2 : tie.Need-enum-known-found-2
+enum-known-found-2 c = search needs
+
+fault-bytes-requires : tie.Need-fault-bytes-requires
+fault-bytes-requires c κs = search needs
+
+slice-aggregate-write-all : tie.Need-slice-aggregate-write-all
+slice-aggregate-write-all c = search needs
+
+write-all-requires : tie.Need-write-all-requires
+write-all-requires c κs = search needs
+
+returns : tie.Need-returns
+returns c = search needs
+
+returns-2 : tie.Need-returns-2
+returns-2 c = search needs
+
+pub main-spec : {M : Type 1} → statement M
+main-spec =
+    tie.close
+    (tie.spec
+    opening-buffer-requires
+    slice-aggregate-read-opening
+    read-opening-requires
+    array-share-prefix-buffer
+    slice-aggregate-bytes
+    verdict-requires
+    enum-known-found
+    answer-records-requires
+    enum-known-found-2
+    fault-bytes-requires
+    slice-aggregate-write-all
+    write-all-requires
+    returns
+    returns-2)

@@ -1,0 +1,75 @@
+/* Rents out machine A of document 01 to one job, as ring {3,3,1}: prints each answer.
+ *
+ *   rt staticlib host && gcc -std=c11 hosts/c/rent.c target/staticlib/libhost.a -o rent && ./rent | diff hosts/c/expected.txt -
+ */
+#include <stdio.h>
+#include <string.h>
+#include "spirerivet.h"
+
+enum { NODES = 4, CPUS = 8, PAGES = 6, JOBS = 1, RENTER = 0 };
+
+static const uint32_t counts[NODES] = {2, 2, 0, 2};
+static const uint8_t cpus[CPUS] = {0, 0, 1, 1, 2, 2, 3, 3};
+static const uint8_t distances[NODES * NODES] = {
+    10, 20, 20, 30,
+    20, 10, 30, 20,
+    20, 30, 10, 20,
+    30, 20, 20, 10,
+};
+static uint8_t pages[PAGES];
+static uint64_t jobs[JOBS * SPIRE_JOB_WORDS];
+
+static struct spire_answer request(size_t cpu)
+{
+    return spire_request(counts, NODES, cpus, CPUS, distances, sizeof distances, pages, PAGES,
+                         jobs, JOBS * SPIRE_JOB_WORDS, RENTER, cpu);
+}
+
+static struct spire_answer release(size_t page)
+{
+    return spire_release(counts, NODES, pages, PAGES, jobs, JOBS * SPIRE_JOB_WORDS, RENTER, page);
+}
+
+static void show(const char *call, struct spire_answer a)
+{
+    if (a.refusal != SPIRE_DONE)
+        printf("%s: refused %u\n", call, (unsigned)a.refusal);
+    else if (a.node == SPIRE_NO_NODE)
+        printf("%s: done\n", call);
+    else
+        printf("%s: node %u, page %u\n", call, (unsigned)a.node, (unsigned)a.page);
+}
+
+static void show_nodes(const char *text)
+{
+    uint8_t out[SPIRE_TEXT_BYTES];
+    struct spire_number mask = spire_read_nodes(NODES, 0xF, (const uint8_t *)text, strlen(text));
+    if (mask.refusal != SPIRE_DONE) {
+        printf("nodes %s: refused %u\n", text, (unsigned)mask.refusal);
+        return;
+    }
+    struct spire_number length = spire_write_nodes(NODES, mask.value, out, sizeof out);
+    printf("nodes %s: mask %llu, written %.*s\n", text, (unsigned long long)mask.value, (int)length.value, (const char *)out);
+}
+
+int main(void)
+{
+    static const uint8_t places[] = {3, 3, 1};
+    struct spire_answer a;
+
+    show("allow 0-3", spire_rebind(NODES, jobs, JOBS * SPIRE_JOB_WORDS, RENTER, 0xF));
+    show("ring 3,3,1", spire_install(NODES, jobs, JOBS * SPIRE_JOB_WORDS, RENTER, SPIRE_RING, SPIRE_PLAIN, 0, places, sizeof places));
+    do {
+        a = request(0);
+        show("request", a);
+    } while (a.refusal == SPIRE_DONE);
+
+    show("release 2", release(2));
+    show("release 2", release(2));
+    show("request", request(0));
+    show("request", request(CPUS));
+
+    show_nodes("!1-2");
+    show_nodes("5-3");
+    return 0;
+}

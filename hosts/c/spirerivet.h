@@ -1,0 +1,104 @@
+/* Spirerivet for hosts in C: link target/staticlib/libhost.a (rt staticlib host).
+ *
+ * All tables belong to the caller and are lent for one call. A table is a pointer, then its number of ELEMENTS. The pointer
+ * must be valid and not null, even for a length of 0; a table that a call may write must overlap no other.
+ * A refused call leaves every table as it was.
+ *
+ *   counts     pages of each node; its length is N, the number of nodes, 1 to 64
+ *   cpus       the node of each CPU, 1 to 256 bytes
+ *   distances  N x N bytes, row by row: 10 on the diagonal, 255 for unreachable
+ *   pages      a byte for each page, node 0's first: 0 free, j + 1 held by job j
+ *   jobs       SPIRE_JOB_WORDS words for each of 1 to 64 jobs; all zero: a fresh job
+ *   masks      bit n stands for node n
+ */
+#ifndef SPIRERIVET_H
+#define SPIRERIVET_H
+
+#include <stddef.h>
+#include <stdint.h>
+
+#define SPIRE_JOB_WORDS 6
+#define SPIRE_PLACES 16           /* most places in a list */
+#define SPIRE_TEXT_BYTES 255      /* longest node list that is read */
+#define SPIRE_CALL_WORDS 16       /* words of a call in a replay */
+#define SPIRE_NO_NODE 0xFF
+#define SPIRE_NO_PAGE 0xFFFFFFFF
+
+/* The number in `refusal`. */
+enum spire_refusal {
+    SPIRE_DONE = 0,
+    SPIRE_BAD_TABLES = 1,         /* the machine's tables or the job table's length break the rules */
+    SPIRE_NO_SUCH_JOB = 2,
+    SPIRE_NO_SUCH_CPU = 3,
+    SPIRE_MALFORMED_RECORD = 4,   /* the job's six words are no record; clear makes them one */
+    SPIRE_UNKNOWN_POLICY = 5,     /* no such mode or flag, or a flag that this mode does not take */
+    SPIRE_DOES_NOT_FIT = 6,       /* the mask or the places do not fit */
+    SPIRE_NOTHING_ALLOWED = 7,    /* the allowed set is empty */
+    SPIRE_NO_ROOM = 8,            /* no node in the search order has a free page */
+    SPIRE_NOTHING_EFFECTIVE = 9,  /* the rebind would leave the job's mask empty */
+    SPIRE_NOT_HELD = 10,          /* no such page, or not this job's */
+    SPIRE_OUTPUT_TOO_SHORT = 11,
+    SPIRE_BAD_TEXT = 12,
+    SPIRE_DAMAGED_JOURNAL = 13    /* a replay's list of calls is damaged */
+};
+
+enum spire_mode {
+    SPIRE_DEFAULT = 0,
+    SPIRE_PREFERRED = 1,
+    SPIRE_BIND = 2,
+    SPIRE_INTERLEAVE = 3,
+    SPIRE_LIST = 4,
+    SPIRE_RING = 5,
+    SPIRE_EARLY = 6
+};
+
+enum spire_flag { SPIRE_PLAIN = 0, SPIRE_STATIC = 1, SPIRE_RELATIVE = 2 };
+
+/* An answer. Where there is no node and no page: SPIRE_NO_NODE, SPIRE_NO_PAGE. */
+struct spire_answer {
+    uint8_t refusal;
+    uint8_t node;
+    uint32_t page;
+};
+
+/* A number; 0 on a refusal. */
+struct spire_number {
+    uint8_t refusal;
+    uint64_t value;
+};
+
+/* A page for a job that runs on a CPU: its node and its number. Writes pages and jobs. Refusals 1, 2, 3, 4, 8. */
+struct spire_answer spire_request(const uint32_t *counts, size_t nodes, const uint8_t *cpus, size_t cpu_count,
+                                  const uint8_t *distances, size_t distance_count, uint8_t *pages, size_t page_count,
+                                  uint64_t *jobs, size_t job_words, size_t job, size_t cpu);
+
+/* A page given back by the job that holds it: its node and its number. Writes pages. Refusals 1, 2, 10. */
+struct spire_answer spire_release(const uint32_t *counts, size_t nodes, uint8_t *pages, size_t page_count,
+                                  const uint64_t *jobs, size_t job_words, size_t job, size_t page);
+
+/* A job's policy: a mask (modes 1 to 3) or places, a node number each (modes 4 to 6). Writes jobs. Refusals 1, 2, 4, 5, 7, 6. */
+struct spire_answer spire_install(size_t nodes, uint64_t *jobs, size_t job_words, size_t job, uint64_t mode, uint64_t flag,
+                                  uint64_t mask, const uint8_t *places, size_t place_count);
+
+/* A job's allowed nodes; the first call for a fresh job. Writes jobs. Refusals 1, 2, 4, 6, 7, 9. */
+struct spire_answer spire_rebind(size_t nodes, uint64_t *jobs, size_t job_words, size_t job, uint64_t allowed);
+
+/* A job made fresh; the pages that it holds stay held. Writes jobs. Refusals 1, 2. */
+struct spire_answer spire_clear(size_t nodes, uint64_t *jobs, size_t job_words, size_t job);
+
+/* The mask of a node list such as `0-3,6`, `!4-5`, `+0-1` (ranks in `allowed`) or `all`. Refusals 1, 6, 12. */
+struct spire_number spire_read_nodes(size_t nodes, uint64_t allowed, const uint8_t *text, size_t text_bytes);
+
+/* The node list of a mask, with no zero byte at its end: its length. Writes that many bytes of out. Refusals 1, 6, 11. */
+struct spire_number spire_write_nodes(size_t nodes, uint64_t mask, uint8_t *out, size_t out_bytes);
+
+/* A list of calls, one after the other: how many. A call is SPIRE_CALL_WORDS words: kind (1 request, 2 release, 3 rebind,
+ * 4 install, 5 clear); job; CPU, page, allowed mask or mode; flag; user mask; number of places; two words unused; then up
+ * to 64 places, one byte each, lowest byte first. An answer is one word: refusal in bits 0-7, node in 8-15, page in 32-63.
+ * Writes pages, jobs and an answer for each call. Refusals, then with no call run: 1, 13, 11. */
+struct spire_number spire_replay(const uint32_t *counts, size_t nodes, const uint8_t *cpus, size_t cpu_count,
+                                 const uint8_t *distances, size_t distance_count, uint8_t *pages, size_t page_count,
+                                 uint64_t *jobs, size_t job_words, const uint64_t *calls, size_t call_words,
+                                 uint64_t *answers, size_t answer_count);
+
+#endif

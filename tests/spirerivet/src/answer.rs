@@ -1,0 +1,81 @@
+//! What a call gives: its answer or one numbered refusal.
+
+use std::fmt;
+
+/// The answer of a call.
+#[derive(Clone, Copy, Debug, PartialEq, Eq)]
+pub enum Answer {
+    Granted { node: u8, page: u32 },
+    Released { node: u8, page: u32 },
+    Done,
+    Refused(Refusal),
+}
+
+/// Document 01's refusals, in the order of their numbers.
+#[derive(Clone, Copy, Debug, PartialEq, Eq, PartialOrd, Ord, Hash)]
+#[repr(u8)]
+pub enum Refusal {
+    BadTables = 1,
+    NoSuchJob,
+    NoSuchCpu,
+    MalformedRecord,
+    UnknownPolicy,
+    DoesNotFit,
+    NothingAllowed,
+    NoRoom,
+    NothingEffective,
+    NotHeld,
+    OutputTooShort,
+    BadText,
+    DamagedJournal,
+}
+
+impl Refusal {
+    /// Every refusal there is.
+    pub const ALL: [Refusal; 13] = [
+        Refusal::BadTables,
+        Refusal::NoSuchJob,
+        Refusal::NoSuchCpu,
+        Refusal::MalformedRecord,
+        Refusal::UnknownPolicy,
+        Refusal::DoesNotFit,
+        Refusal::NothingAllowed,
+        Refusal::NoRoom,
+        Refusal::NothingEffective,
+        Refusal::NotHeld,
+        Refusal::OutputTooShort,
+        Refusal::BadText,
+        Refusal::DamagedJournal,
+    ];
+
+    /// Its number in document 01.
+    pub fn number(self) -> u8 {
+        self as u8
+    }
+
+    /// The refusal of a number.
+    pub fn of_number(number: u8) -> Option<Refusal> {
+        Refusal::ALL.into_iter().find(|refusal| refusal.number() == number)
+    }
+}
+
+impl fmt::Display for Refusal {
+    fn fmt(&self, to: &mut fmt::Formatter) -> fmt::Result {
+        write!(to, "refusal {} ({self:?})", self.number())
+    }
+}
+
+#[cfg(test)]
+mod tests {
+    use super::*;
+
+    #[test]
+    fn numbers_go_from_1_to_13() {
+        for (index, refusal) in Refusal::ALL.into_iter().enumerate() {
+            assert_eq!(usize::from(refusal.number()), index + 1);
+            assert_eq!(Refusal::of_number(refusal.number()), Some(refusal));
+        }
+        assert_eq!(Refusal::of_number(0), None);
+        assert_eq!(Refusal::of_number(14), None);
+    }
+}

@@ -1,0 +1,110 @@
+//! One call of a script.
+
+use reference::calls::{Call, Tables};
+use reference::record::{read, WORDS};
+use reference::text::read_nodes;
+
+/// What a line of calls begins with.
+const CALLS: &str = "`request`, `release`, `rebind`, `install` or `clear`";
+const MODES: &str = "a mode: `default`, `preferred`, `bind`, `interleave`, `list`, `ring` or `early`";
+
+/// A plain number up to a limit.
+pub fn number(word: &str, most: u64) -> Option<u64> {
+    if word.is_empty() || !word.bytes().all(|byte| byte.is_ascii_digit()) {
+        return None;
+    }
+    word.parse().ok().filter(|number| *number <= most)
+}
+
+/// A number, or what was expected.
+fn needed(word: &str, what: &str, most: u64) -> Result<u64, String> {
+    number(word, most).ok_or_else(|| format!("{what} from 0 to {most} in place of `{word}`"))
+}
+
+/// A job number as a journal's byte holds it.
+fn job_of(word: &str) -> Result<usize, String> {
+    needed(word, "a job", 255).map(|job| job as usize)
+}
+
+/// The nodes that the job is allowed by the book.
+fn allowed_to(book: &Tables, job: usize) -> u64 {
+    if job < book.jobs.len() / WORDS {
+        read(&book.jobs, job).allowed
+    } else {
+        0
+    }
+}
+
+/// A node list below a limit.
+fn nodes_of(word: &str, limit: usize, allowed: u64) -> Result<u64, String> {
+    if word == "none" {
+        return Ok(0);
+    }
+    read_nodes(limit, allowed, word.as_bytes())
+        .map_err(|_| format!("nodes below {limit} such as `0-3,5`, `!2`, `+0-1`, `all` or `none` in place of `{word}`"))
+}
+
+/// Places split by commas.
+fn places_of(word: &str) -> Result<Vec<u8>, String> {
+    let places: Option<Vec<u8>> = word.split(',').map(|place| number(place, 255).map(|place| place as u8)).collect();
+    match places {
+        Some(places) if places.len() <= 255 => Ok(places),
+        _ => Err(format!("places from 0 to 255 such as `3,3,1` in place of `{word}`")),
+    }
+}
+
+/// The call that the words of a line say, or what was expected.
+pub fn read_call(words: &[&str], book: &Tables) -> Result<Call, String> {
+    match words {
+        ["request", job, "cpu", cpu] => {
+            Ok(Call::Request { job: job_of(job)?, cpu: needed(cpu, "a CPU", 255)? as usize })
+        }
+        ["release", job, "page", page] => {
+            let page = needed(page, "a page", u64::from(u32::MAX))? as usize;
+            Ok(Call::Release { job: job_of(job)?, page })
+        }
+        ["rebind", job, nodes] => {
+            let job = job_of(job)?;
+            Ok(Call::Rebind { job, allowed: nodes_of(nodes, book.counts.len(), allowed_to(book, job))? })
+        }
+        ["clear", job] => Ok(Call::Clear { job: job_of(job)? }),
+        ["install", job, policy @ ..] => read_install(job_of(job)?, policy, book),
+        ["request", ..] => Err(String::from("`request JOB cpu CPU`")),
+        ["release", ..] => Err(String::from("`release JOB page PAGE`")),
+        ["rebind", ..] => Err(String::from("`rebind JOB NODES`")),
+        ["clear", ..] => Err(String::from("`clear JOB`")),
+        ["install"] => Err(String::from("`install JOB MODE` and what the mode carries")),
+        _ => Err(String::from(CALLS)),
+    }
+}
+
+/// The number of a mode.
+fn mode_of(word: &str) -> Option<u64> {
+    let modes = ["default", "preferred", "bind", "interleave", "list", "ring", "early"];
+    modes.iter().position(|mode| *mode == word).map(|mode| mode as u64)
+}
+
+/// An install: a mode and what it carries.
+fn read_install(job: usize, policy: &[&str], book: &Tables) -> Result<Call, String> {
+    let Some((name, carried)) = policy.split_first() else {
+        return Err(String::from(MODES));
+    };
+    let mode = mode_of(name).ok_or(MODES)?;
+    match (mode, carried) {
+        (0 | 1, []) => Ok(Call::Install { job, mode, flag: 0, mask: 0, places: Vec::new() }),
+        (1..=3, [nodes]) => masked(job, mode, 0, nodes, book),
+        (1..=3, [nodes, "static"]) => masked(job, mode, 1, nodes, book),
+        (1..=3, [nodes, "relative"]) => masked(job, mode, 2, nodes, book),
+        (4..=6, [places]) => Ok(Call::Install { job, mode, flag: 0, mask: 0, places: places_of(places)? }),
+        (0, _) => Err(String::from("nothing after `default`")),
+        (1..=3, _) => Err(format!("a node list after `{name}`, then `static`, `relative` or nothing")),
+        _ => Err(format!("places such as `3,3,1` after `{name}`, and nothing else")),
+    }
+}
+
+/// An install of a mode that carries a mask; a relative one has 64 bits.
+fn masked(job: usize, mode: u64, flag: u64, nodes: &str, book: &Tables) -> Result<Call, String> {
+    let limit = if flag == 2 { 64 } else { book.counts.len() };
+    let mask = nodes_of(nodes, limit, allowed_to(book, job))?;
+    Ok(Call::Install { job, mode, flag, mask, places: Vec::new() })
+}

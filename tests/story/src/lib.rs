@@ -1,0 +1,31 @@
+//! For people: scripts into journals, answers into lines, and a picture of the nodes.
+//!
+//! A script has one call a line, after the machine:
+//!
+//! ```text
+//! machine A                       # a name, or nothing
+//! pages 2 2 0 2                   # of each node
+//! cpus 0 0 1 1 2 2 3 3            # the node of each CPU
+//! distance 10 20 20 30            # a row for each node
+//! distance 20 10 30 20
+//! distance 20 30 10 20
+//! distance 30 20 20 10
+//! rebind 0 0-3                    # job, node list
+//! install 0 default               # default, or preferred alone: local
+//! install 0 interleave 1-3 static # preferred, bind, interleave: node list; static, relative or nothing
+//! install 0 ring 3,3,1            # list, ring, early: places
+//! request 0 cpu 4
+//! release 0 page 5
+//! clear 0
+//! ```
+//!
+//! Node lists are document 01's, `all` and `+` by what the job is allowed at
+//! that line; `none` is the empty set. A relative mask may name 0 to 63.
+
+#![forbid(unsafe_code)]
+
+pub mod answers;
+mod call;
+mod machine;
+pub mod picture;
+pub mod script;

@@ -1,0 +1,95 @@
+//! A script: the machine first, then one call a line.
+
+use std::fmt;
+
+use reference::calls::{apply, Call, Tables};
+use reference::journal::{call_bytes, machine_bytes};
+
+use crate::call::read_call;
+use crate::machine::Reader;
+
+/// A line of calls, as written.
+#[derive(Clone, Debug, PartialEq, Eq)]
+pub struct Line {
+    pub number: usize,
+    pub text: String,
+    pub call: Call,
+}
+
+/// A whole script.
+#[derive(Clone, Debug, PartialEq, Eq)]
+pub struct Script {
+    pub name: String,
+    pub machine: Tables,
+    pub lines: Vec<Line>,
+}
+
+/// Where a script is wrong, and what would be right.
+#[derive(Clone, Debug, PartialEq, Eq)]
+pub struct Fault {
+    pub line: usize,
+    pub expected: String,
+    pub found: String,
+}
+
+impl fmt::Display for Fault {
+    fn fmt(&self, to: &mut fmt::Formatter) -> fmt::Result {
+        write!(to, "line {}: expected {}, found {}", self.line, self.expected, self.found)
+    }
+}
+
+/// The words of a line, and where it stands.
+#[derive(Clone, Debug)]
+pub struct Words<'a> {
+    pub number: usize,
+    pub words: Vec<&'a str>,
+}
+
+impl Words<'_> {
+    /// The line with single spaces.
+    pub fn text(&self) -> String {
+        self.words.join(" ")
+    }
+
+    /// This line is wrong.
+    pub fn fault(&self, expected: impl Into<String>) -> Fault {
+        Fault { line: self.number, expected: expected.into(), found: format!("`{}`", self.text()) }
+    }
+}
+
+/// The lines that say something: comments and empty lines left out.
+fn lines_of(script: &str) -> Vec<Words<'_>> {
+    let mut lines = Vec::new();
+    for (index, line) in script.lines().enumerate() {
+        let said = line.split('#').next().unwrap_or("");
+        let words: Vec<&str> = said.split_whitespace().collect();
+        if !words.is_empty() {
+            lines.push(Words { number: index + 1, words });
+        }
+    }
+    lines
+}
+
+/// Reads a script. A book kept by the rules says what each job is allowed.
+pub fn read_script(text: &str) -> Result<Script, Fault> {
+    let end = Fault { line: text.lines().count() + 1, expected: String::new(), found: String::from("the end") };
+    let mut reader = Reader { lines: lines_of(text).into_iter(), end };
+    let (name, machine) = reader.machine()?;
+    let mut book = machine.clone();
+    let mut read = Vec::new();
+    for line in reader.lines {
+        let call = read_call(&line.words, &book).map_err(|expected| line.fault(expected))?;
+        apply(&mut book, &call);
+        read.push(Line { number: line.number, text: line.text(), call });
+    }
+    Ok(Script { name, machine, lines: read })
+}
+
+/// The journal of a script.
+pub fn journal(script: &Script) -> Vec<u8> {
+    let mut bytes = machine_bytes(&script.machine);
+    for line in &script.lines {
+        bytes.extend(call_bytes(&line.call));
+    }
+    bytes
+}

@@ -1,0 +1,223 @@
+//! Scripts, journals and told answers.
+
+use std::io::Write;
+use std::process::{Command, Stdio};
+
+use reference::calls::Call;
+use reference::journal::{read_journal, run};
+use story::answers::told;
+use story::script::{journal, read_script};
+
+const MACHINE_A: &str = "machine A
+pages 2 2 0 2
+cpus 0 0 1 1 2 2 3 3
+distance 10 20 20 30
+distance 20 10 30 20
+distance 20 30 10 20
+distance 30 20 20 10
+";
+
+/// Machine A and some lines.
+fn on_a(lines: &str) -> String {
+    format!("{MACHINE_A}{lines}")
+}
+
+/// The calls of a script, by its journal.
+fn calls(lines: &str) -> Vec<Call> {
+    let script = read_script(&on_a(lines)).unwrap();
+    let (machine, calls) = read_journal(&journal(&script)).unwrap();
+    assert_eq!(machine, script.machine);
+    assert_eq!(calls, script.lines.into_iter().map(|line| line.call).collect::<Vec<Call>>());
+    calls
+}
+
+/// The script told with the answers that the rules give.
+fn story(script: &str) -> String {
+    let script = read_script(script).unwrap();
+    told(&script, &run(&journal(&script))).unwrap()
+}
+
+#[test]
+fn the_journal_of_document_01() {
+    let script = read_script(&on_a("rebind 0 0-3\nrequest 0 cpu 0\n")).unwrap();
+    let bytes = journal(&script);
+    assert_eq!(bytes[..6], [0x4E, 0x50, 0, 4, 8, 0]);
+    assert_eq!(bytes.len(), 6 + 8 + 8 + 16 + 64);
+    let answers =
+        [[0x4E, 0x41, 3, 0, 0xFF, 0, 0, 0, 0xFF, 0xFF, 0xFF, 0xFF], [0x4E, 0x41, 1, 0, 0, 0, 0, 0, 0, 0, 0, 0]];
+    assert_eq!(run(&bytes), answers.concat());
+    let lines = "machine A
+   8  rebind 0 0-3     |..|..||..|  done
+   9  request 0 cpu 0  |0.|..||..|  node 0, page 0
+node  0  1 of 2 held  |0.|
+node  1  0 of 2 held  |..|
+node  2  0 of 0 held  ||
+node  3  0 of 2 held  |..|
+";
+    assert_eq!(told(&script, &answers.concat()).unwrap(), lines);
+}
+
+#[test]
+fn every_sort_of_line() {
+    let install = |mode, flag, mask, places: &[u8]| Call::Install { job: 7, mode, flag, mask, places: places.to_vec() };
+    let lines = "rebind 7 1-3\nrebind 7 +0,2\nrebind 7 !0\nrebind 7 all\nrebind 7 none\ninstall 7 default\n\
+        install 7 preferred\ninstall 7 preferred 2\ninstall 7 bind !1 static\ninstall 7 interleave 0,63 relative\n\
+        install 7 interleave +0-1 relative\ninstall 7 list 255\n  install   7 ring 3,3,1 # turns\n\n# nothing\n\
+        install 7 early 0,1\nrequest 255 cpu 255\nrelease 7 page 4294967295\nclear 64\n";
+    let expected = vec![
+        Call::Rebind { job: 7, allowed: 0b1110 },
+        Call::Rebind { job: 7, allowed: 0b1010 },
+        Call::Rebind { job: 7, allowed: 0b1110 },
+        Call::Rebind { job: 7, allowed: 0b1110 },
+        Call::Rebind { job: 7, allowed: 0 },
+        install(0, 0, 0, &[]),
+        install(1, 0, 0, &[]),
+        install(1, 0, 0b0100, &[]),
+        install(2, 1, 0b1101, &[]),
+        install(3, 2, 1 | 1 << 63, &[]),
+        install(3, 2, 0b0110, &[]),
+        install(4, 0, 0, &[255]),
+        install(5, 0, 0, &[3, 3, 1]),
+        install(6, 0, 0, &[0, 1]),
+        Call::Request { job: 255, cpu: 255 },
+        Call::Release { job: 7, page: 4_294_967_295 },
+        Call::Clear { job: 64 },
+    ];
+    assert_eq!(calls(lines), expected);
+}
+
+const MODES: &str = "a mode: `default`, `preferred`, `bind`, `interleave`, `list`, `ring` or `early`";
+const AFTER_BIND: &str = "a node list after `bind`, then `static`, `relative` or nothing";
+const LISTS: &str = "such as `0-3,5`, `!2`, `+0-1`, `all` or `none` in place of";
+
+#[test]
+fn bad_lines_say_where_and_what() {
+    for (line, expected) in [
+        ("ask 0", "`request`, `release`, `rebind`, `install` or `clear`"),
+        ("request 0 4", "`request JOB cpu CPU`"),
+        ("request 256 cpu 0", "a job from 0 to 255 in place of `256`"),
+        ("request 0 cpu -1", "a CPU from 0 to 255 in place of `-1`"),
+        ("release 0 page +1", "a page from 0 to 4294967295 in place of `+1`"),
+        ("release 0 5", "`release JOB page PAGE`"),
+        ("clear", "`clear JOB`"),
+        ("rebind 0", "`rebind JOB NODES`"),
+        ("rebind 0 0-4", &format!("nodes below 4 {LISTS} `0-4`")),
+        ("install", "`install JOB MODE` and what the mode carries"),
+        ("install 0", MODES),
+        ("install 0 rings 1", MODES),
+        ("install 0 default 1", "nothing after `default`"),
+        ("install 0 bind", AFTER_BIND),
+        ("install 0 bind 1 fixed", AFTER_BIND),
+        ("install 0 bind 64 relative", &format!("nodes below 64 {LISTS} `64`")),
+        ("install 0 ring 3,,1", "places from 0 to 255 such as `3,3,1` in place of `3,,1`"),
+        ("install 0 ring 3 static", "places such as `3,3,1` after `ring`, and nothing else"),
+    ] {
+        let fault = read_script(&on_a(&format!("clear 0\n\n# the next line is bad\n{line}\n"))).unwrap_err();
+        assert_eq!(fault.to_string(), format!("line 11: expected {expected}, found `{line}`"));
+    }
+}
+
+#[test]
+fn bad_machines_say_where_and_what() {
+    let fault = |script: &str| read_script(script).unwrap_err().to_string();
+    let pages = "`pages` and the pages of 1 to 16 nodes, at most 16384 together";
+    assert_eq!(fault(""), "line 1: expected `machine` and a name or nothing, found the end");
+    assert_eq!(fault("clear 0"), "line 1: expected `machine` and a name or nothing, found `clear 0`");
+    assert_eq!(fault("machine\n"), format!("line 2: expected {pages}, found the end"));
+    assert_eq!(fault("machine\npages\n"), format!("line 2: expected {pages}, found `pages`"));
+    assert_eq!(fault("machine\npages 16384 1\n"), format!("line 2: expected {pages}, found `pages 16384 1`"));
+    let cpus = "`cpus` and the node (0 to 1) of 1 to 64 CPUs";
+    assert_eq!(fault("machine\npages 1 1\ncpus 2\n"), format!("line 3: expected {cpus}, found `cpus 2`"));
+    let head = "machine\npages 1 1\ncpus 1\n";
+    let row = |node| format!("`distance` and 2 distances from node {node}: 10 to itself, else 10 to 255");
+    assert_eq!(fault(head), format!("line 4: expected {}, found the end", row(0)));
+    assert_eq!(fault(&format!("{head}distance 10\n")), format!("line 4: expected {}, found `distance 10`", row(0)));
+    let far = format!("{head}distance 10 256\n");
+    assert_eq!(fault(&far), format!("line 4: expected {}, found `distance 10 256`", row(0)));
+    let not_ten = format!("{head}distance 10 20\n# row 1\ndistance 20 11\n");
+    assert_eq!(fault(&not_ten), format!("line 6: expected {}, found `distance 20 11`", row(1)));
+}
+
+#[test]
+fn the_story_of_three_tenants() {
+    assert_eq!(story(include_str!("../scripts/rent.txt")), include_str!("../scripts/rent.told.txt"));
+}
+
+#[test]
+fn the_examples_of_document_01() {
+    for (policy, cpu, places) in [
+        ("default", 4, "0 1 4 5 2 3"),
+        ("bind 1,3", 0, "2 3 4 5 -"),
+        ("interleave 1-3", 0, "2 0 4"),
+        ("ring 3,3,1", 0, "4 5 2 3 -"),
+        ("list 3,3,1", 0, "4 5 2 3 -"),
+        ("early 0,1,3", 0, "0 1 2 4 3 5 -"),
+    ] {
+        let mut script = on_a(&format!("rebind 0 all\nrebind 0 0-3\ninstall 0 {policy}\n"));
+        for _ in places.split(' ') {
+            script.push_str(&format!("request 0 cpu {cpu}\n"));
+        }
+        let told = story(&script);
+        let requests = told.lines().filter(|line| line.contains("request"));
+        for (line, place) in requests.zip(places.split(' ')) {
+            let end = match place {
+                "-" => String::from("refused 8: no node in the order has a free page"),
+                page => format!(", page {page}"),
+            };
+            assert!(line.ends_with(&end), "{policy}: {line}");
+        }
+    }
+}
+
+#[test]
+fn bad_answers_say_where_and_what() {
+    let script = read_script(&on_a("rebind 0 0-3\nrequest 0 cpu 0\n")).unwrap();
+    let good = run(&journal(&script));
+    let changed = |index: usize, byte: u8| {
+        let mut bytes = good.clone();
+        bytes[index] = byte;
+        told(&script, &bytes)
+    };
+    let message = |index, byte| changed(index, byte).unwrap_err();
+    assert_eq!(told(&script, &good[..12]).unwrap_err(), "answer 1 (line 9): expected an answer, found the end");
+    let bytes = "twelve bytes 4E 41 kind refusal node 0 0 0 page";
+    assert_eq!(told(&script, &good[..23]).unwrap_err(), format!("answer 1 (line 9): expected {bytes}"));
+    assert_eq!(message(0, 0), format!("answer 0 (line 8): expected {bytes}"));
+    assert_eq!(message(6, 1), format!("answer 0 (line 8): expected {bytes}"));
+    assert_eq!(message(2, 1), "answer 0 (line 8): expected kind 3, found 1");
+    assert_eq!(message(4, 1), "answer 0 (line 8): expected an answer that names no node and no page");
+    assert_eq!(message(15, 8), "answer 1 (line 9): expected a refusal that names no node and no page");
+    assert_eq!(message(20, 6), "answer 1 (line 9): expected a page of this machine");
+    let more = [good.clone(), good.clone()].concat();
+    assert_eq!(told(&script, &more).unwrap_err(), "expected no more answers than calls");
+    let stopped = [0x4E, 0x41, 0xFF, 13, 0xFF, 0, 0, 0, 0xFF, 0xFF, 0xFF, 0xFF];
+    assert!(told(&script, &stopped).unwrap().contains("   8  the program stopped with 13: damaged journal\n"));
+}
+
+/// Runs the program with an input.
+fn program(arguments: &[&str], input: &[u8]) -> (bool, Vec<u8>, String) {
+    let mut child = Command::new(env!("CARGO_BIN_EXE_story"))
+        .args(arguments)
+        .stdin(Stdio::piped())
+        .stdout(Stdio::piped())
+        .stderr(Stdio::piped())
+        .spawn()
+        .unwrap();
+    let _ = child.stdin.take().unwrap().write_all(input);
+    let output = child.wait_with_output().unwrap();
+    (output.status.success(), output.stdout, String::from_utf8(output.stderr).unwrap())
+}
+
+#[test]
+fn the_program() {
+    let path = concat!(env!("CARGO_MANIFEST_DIR"), "/scripts/rent.txt");
+    let (good, journal, _) = program(&["journal"], include_bytes!("../scripts/rent.txt"));
+    assert!(good);
+    let (good, lines, _) = program(&["answers", path], &run(&journal));
+    assert!(good);
+    assert_eq!(lines, include_bytes!("../scripts/rent.told.txt"));
+    let (good, nothing, message) = program(&["journal"], b"machine\npages x\n");
+    assert!(!good && nothing.is_empty());
+    assert!(message.starts_with("line 2: expected `pages`"), "{message}");
+    assert!(!program(&[], b"").0);
+}
