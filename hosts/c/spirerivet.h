@@ -101,4 +101,8 @@ struct spire_number spire_replay(const uint32_t *counts, size_t nodes, const uin
                                  uint64_t *jobs, size_t job_words, const uint64_t *calls, size_t call_words,
                                  uint64_t *answers, size_t answer_count);
 
+/* A whole journal, machine record first: the length of its answers, 12 bytes each. Writes that many bytes of output, which
+ * must have room for an answer to each whole record of 32 bytes that fits into the input, and one more. Refusal 11. */
+struct spire_number spire_journal(const uint8_t *input, size_t input_bytes, uint8_t *output, size_t output_bytes);
+
 #endif

@@ -11,9 +11,12 @@ ghost use Rattle.machine.specs.Tables.{machineOf};
 ghost use Rattle.nodelist.specs.Answers.{readingOf, writingOf};
 ghost use Rattle.placement.specs.Lent.{tablesOf};
 ghost use Rattle.fairness.specs.Demand3.{Demand3};
+ghost use Rattle.journal.specs.Whole.{decisionOf as journalOf, writeJournal};
 ghost use Rattle.replay.specs.Encoding.{callsIn};
 ghost use Rattle.replay.specs.Replay.{onReplay, decisionOf, Belongs};
 ghost use Rattle.host.specs.Numbers.{numbersIn, decided, decidedIn, Told, ToldStored, ToldRun};
+use journal;
+use journal::Written;
 use nodelist;
 use nodelist::Reading;
 use nodelist::Writing;
@@ -108,6 +111,16 @@ fn ran(replayed: Replayed) -> HostNumber
     match replayed {
         Replayed::Ran(calls) => HostNumber::new(0, calls as u64),
         Replayed::Refused(why) => HostNumber::new(why.number(), 0),
+    }
+}
+
+// What a journal's run answers, in numbers.
+fn answered(written: Written) -> HostNumber
+    ensures { λ r. ⌜ decidedIn r ≡ decided (journalOf written) ⌝ }
+{
+    match written {
+        Written::Bytes(len) => HostNumber::new(0, len as u64),
+        Written::Refused(why) => HostNumber::new(why.number(), 0),
     }
 }
 
@@ -211,4 +224,13 @@ pub extern "C" fn spire_replay(
     ensures ledger { λ r. ⌜ ((k : ℕ) → now (pages .entry) ≡ replicate k 0 → r .refusal ≡ 0 → Belongs (machineOf (now (counts .entry)) (now (cpus .entry)) (now (distances .entry))) (tablesOf (now (pages .entry)) (now (jobs .entry))) (callsIn (now (calls .entry))) (now (pages .exit))) ⌝ }
 {
     ran(replay::replay(counts, cpus, distances, pages, jobs, calls, answers))
+}
+
+// A whole journal; its answers at the start of the output, and their length.
+#[no_mangle]
+pub extern "C" fn spire_journal(input: &[u8], output: &mut [u8]) -> HostNumber
+    ensures answer { λ r. ⌜ decidedIn r ≡ decided (writeJournal (now (input .entry)) (now (output .entry)) .answer) ⌝ }
+    ensures output { λ r. ⌜ now (output .exit) ≡ writeJournal (now (input .entry)) (now (output .entry)) .output ⌝ }
+{
+    answered(journal::journal(input, output))
 }

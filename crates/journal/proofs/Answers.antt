@@ -6,7 +6,7 @@ use mathlib.Core.Bool.{Bool, true, false, _&&_, cond}
 use mathlib.Core.List.{List, [], _∷_, _++_}
 use native.Mathlib.Omega.{arith}
 use lib.Dec.{leb}
-use lib.ListN.{length, drop, length-append, length-drop}
+use lib.ListN.{length, drop, length-drop}
 use Rattle.rules.specs.Basics.{sum}
 use Rattle.rules.specs.Machine.{Machine, machineOk}
 use Rattle.rules.specs.Calls.{Tables, Decision, refuse, accept, unless, refused, numbers}
@@ -119,20 +119,6 @@ module _ (m : Machine) where
   unfolding leftFrom
   left-damaged t [] l h = absurd (omega arith)
   left-damaged t (b ∷ bs) l h = rw h
-
-  -- a run answers at most 12 bytes for each record
-  pub run-length : (f : ℕ) (t : Tables) (bs : List ℕ) → length (runFrom f m t bs) ≤ 12 * f
-  unfolding runFrom
-  run-length zero t bs = omega arith
-  run-length (suc f) t [] = omega arith
-  run-length (suc f) t (b ∷ bs) = go (recordOk (b ∷ bs)) (run-length f (outcomeOf m t (b ∷ bs) .tables) (drop recordSize (b ∷ bs)))
-    where
-      more : List ℕ
-      more = runFrom f m (outcomeOf m t (b ∷ bs) .tables) (drop recordSize (b ∷ bs))
-
-      go : (ok : Bool) → length more ≤ 12 * f → length (cond ok (answerTo m t (b ∷ bs) ++ more) (faulty 13)) ≤ 12 * suc f
-      go true h = rw length-append (omega (arith, answer-length (byteAt (b ∷ bs) 2) (numbers (outcomeOf m t (b ∷ bs) .answer))))
-      go false h = omega (arith, fault-length 13)
 
 -- ---- a record that is answered
 

@@ -121,11 +121,6 @@ read-alone install′ bs =
 read-alone clear′ bs = rw (byte-alone bs 3 (omega arith))
 read-alone unknownKind bs = refl
 
--- and its places
-pub places-alone : (bs : List ℕ) → placesIn (take recordSize bs) ≡ placesIn bs
-unfolding placesIn
-places-alone bs = rw (part-take recordSize 16 placesPerJob bs (omega arith))
-
 -- ---- the places of an install
 
 -- the first i of some entries, and zeros after them, in w places

@@ -18,8 +18,8 @@ use super::record::Kind;
 use super::record::decode;
 use super::record::places_in;
 use super::record::record_ok;
-use placement;
 use placement::release;
+use placement::request_at;
 use records;
 use rules::Refusal;
 use rules::Reply;
@@ -79,17 +79,15 @@ fn perform(
     let nodes = counts.len();
     let call = decode(bytes, Kind::of(bytes[2]));
     match call {
-        Call::Request { job, cpu } => {
-            placement::request_at(
-                counts,
-                cpus,
-                distances,
-                pages,
-                jobs,
-                job as usize,
-                cpu as usize,
-            )
-        }
+        Call::Request { job, cpu } => request_at(
+            counts,
+            cpus,
+            distances,
+            pages,
+            jobs,
+            job as usize,
+            cpu as usize,
+        ),
         Call::Release { job, page } => {
             release::release_at(counts, pages, jobs, job as usize, page.0 as usize)
         }
@@ -100,7 +98,7 @@ fn perform(
             flag,
             mask,
             len,
-        } => { install(nodes, jobs, bytes, job, mode, flag, mask, len) }
+        } => install(nodes, jobs, bytes, job, mode, flag, mask, len),
         Call::Clear { job } => records::clear_at(nodes, jobs, job as usize),
         Call::Damaged => Reply::Refused(Refusal::DamagedJournal),
     }

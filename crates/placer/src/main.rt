@@ -5,6 +5,7 @@ ghost use mathlib.Core.Path.{_≡_};
 ghost use Prim.Native.Nat.{_≤_};
 ghost use lib.ListN.{length};
 ghost use Rattle.rules.specs.Calls.{accept, requestTablesOk};
+ghost use Rattle.rules.specs.Journal.{machineSize};
 ghost use Rattle.machine.specs.Tables.{machineOf};
 ghost use Rattle.placement.specs.Lent.{tablesOf};
 ghost use Rattle.journal.specs.Enums.{verdict};
@@ -82,8 +83,8 @@ fn answer_parts(counts: &[u32], cpus: &[u8], distances: &[u8], pages: &mut [u8],
 }
 
 // The records after a good machine record, on free pages and fresh jobs.
-fn answer_records(bytes: &[u8], size: usize)
-    requires { ⌜ verdict (now bytes) ≡ accept size ⌝ }
+fn answer_records(bytes: &[u8])
+    requires { ⌜ verdict (now bytes) ≡ accept (machineSize (now bytes)) ⌝ }
 {
     let n = reading::byte_at(bytes, 3);
     let all = opening::page_counts(bytes);
@@ -102,7 +103,7 @@ fn main() {
     let bytes = &buffer[..n];
     let found = opening::verdict(bytes);
     match found {
-        Opening::Good(size) => answer_records(bytes, size),
+        Opening::Good(_) => answer_records(bytes),
         Opening::Faulty(refusal) => {
             let fault = answer::fault_bytes(refusal);
             io::write_all(STDOUT_FILENO, &fault);

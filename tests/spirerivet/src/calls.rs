@@ -95,3 +95,9 @@ pub fn replay(
 ) -> Result<usize, Refusal> {
     number(host::replay(counts, cpus, distances, pages, jobs, calls, answers)).map(|ran| ran as usize)
 }
+
+/// Runs a whole journal and writes its answers; gives their length. The output must have room for an answer to each whole
+/// record that fits into the input, and one more.
+pub fn journal(input: &[u8], output: &mut [u8]) -> Result<usize, Refusal> {
+    number(host::journal(input, output)).map(|length| length as usize)
+}

@@ -46,6 +46,7 @@ extern "C" {
         jobs: *mut u64, jobs_len: usize, calls: *const u64, calls_len: usize,
         answers: *mut u64, answers_len: usize,
     ) -> HostNumber;
+    fn spire_journal(input: *const u8, input_len: usize, output: *mut u8, output_len: usize) -> HostNumber;
 }
 
 #[rustfmt::skip]
@@ -108,4 +109,8 @@ pub fn replay(
             answers.as_mut_ptr(), answers.len(),
         )
     }
+}
+
+pub fn journal(input: &[u8], output: &mut [u8]) -> HostNumber {
+    unsafe { spire_journal(input.as_ptr(), input.len(), output.as_mut_ptr(), output.len()) }
 }

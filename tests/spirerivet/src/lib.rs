@@ -12,7 +12,7 @@ mod host;
 mod list;
 
 pub use answer::{Answer, Refusal};
-pub use calls::{clear, install, read_nodes, rebind, release, replay, request, write_nodes};
+pub use calls::{clear, install, journal, read_nodes, rebind, release, replay, request, write_nodes};
 pub use list::{answer_of, words_of, Call, CALL_WORDS, MOST_CALL_PLACES};
 
 /// The words of a job in the job table.

@@ -5,6 +5,7 @@ use native.Mathlib.Omega.{arith}
 use lib.ListN.{length}
 use lib.Seq.{length-take-le}
 use Rattle.journal.specs.Enums.{openingOf}
+use Rattle.journal.proofs.MachineRecord.{opened}
 use borrow.Author.Needs.{needs}
 use Rattle.placer.proofs.main.Statement.{statement}
 use Rattle.placer.proofs.main.Tie as tie
@@ -29,14 +30,16 @@ slice-aggregate-bytes c =
 verdict-requires : tie.Need-verdict-requires
 verdict-requires c κs = search needs
 
-enum-known-found : tie.Need-enum-known-found
-enum-known-found c = search needs
+enum-told : tie.Need-enum-told
+enum-told c = search needs
 
 answer-records-requires : tie.Need-answer-records-requires
-answer-records-requires c κs = sym (c .before .before .before .verdict .ensures) ∙ ap openingOf (c .before .found .given .1)
+answer-records-requires c κs =
+    let v = sym (c .before .before .verdict .ensures) ∙ ap openingOf (c .enum-told .given .1) in
+    rw (sym (opened _ v .size)) v
 
-enum-known-found-2 : tie.Need-enum-known-found-2
-enum-known-found-2 c = search needs
+enum-known-found : tie.Need-enum-known-found
+enum-known-found c = search needs
 
 fault-bytes-requires : tie.Need-fault-bytes-requires
 fault-bytes-requires c κs = search needs
@@ -63,9 +66,9 @@ main-spec =
     array-share-prefix-buffer
     slice-aggregate-bytes
     verdict-requires
-    enum-known-found
+    enum-told
     answer-records-requires
-    enum-known-found-2
+    enum-known-found
     fault-bytes-requires
     slice-aggregate-write-all
     write-all-requires
