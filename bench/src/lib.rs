@@ -1,8 +1,11 @@
-//! The proved library timed beside a careful Rust implementation of the same rules.
+//! The proved library and program timed beside a careful Rust implementation of the same rules.
 
 #![deny(unsafe_code)]
 
 pub mod fast;
+pub mod journal;
+pub mod journals;
+pub mod list;
 mod map;
 mod masks;
 mod record;

@@ -14,14 +14,16 @@ const PIECE: usize = 256;
 
 fn main() {
     let rounds = std::env::args().nth(1).and_then(|rounds| rounds.parse().ok()).unwrap_or(15);
+    let mut rows: Vec<Row> = [4, 16, 64].into_iter().flat_map(works).map(Row::new).collect();
+    for _ in 0..rounds {
+        rows.iter_mut().for_each(Row::round);
+    }
     println!("Nanoseconds per call, best of {rounds} rounds; ratio = proved library / careful Rust.");
     println!("Nodes have 65,536 pages, at N = 64 16,384: that is all there may be.\n");
     println!("| N | workload | calls | single: library | Rust | ratio | replay: library | Rust | ratio |");
     println!("|---|---|---|---|---|---|---|---|---|");
-    for nodes in [4, 16, 64] {
-        for work in works(nodes) {
-            println!("{}", row(&work, rounds));
-        }
+    for row in rows {
+        println!("{}", row.line());
     }
     println!("\nThe page search: a request on one node of 65,536 pages, all held but one; nanoseconds.\n");
     println!("| free page | request: library | Rust | ratio | blocks alone | library / blocks | memchr alone | library / memchr | byte by byte |");
@@ -31,43 +33,48 @@ fn main() {
     }
 }
 
-/// Runs all ways in turns; every round must answer and leave the same.
-fn row(work: &Work, rounds: usize) -> String {
-    let mut best = vec![[Duration::MAX; WAYS.len()]; work.calls.len().div_ceil(PIECE)];
-    let mut agreed: Option<(Tables, Vec<u64>)> = None;
-    for _ in 0..rounds {
+/// A workload, the best time of each piece and way so far, and what all ways answered and left.
+struct Row {
+    work: Work,
+    best: Vec<[Duration; WAYS.len()]>,
+    agreed: Option<(Tables, Vec<u64>)>,
+}
+
+impl Row {
+    fn new(work: Work) -> Row {
+        let best = vec![[Duration::MAX; WAYS.len()]; work.calls.len().div_ceil(PIECE)];
+        Row { work, best, agreed: None }
+    }
+
+    /// Runs all ways in turns; every round must answer and leave the same.
+    fn round(&mut self) {
+        let Row { work, best, agreed } = self;
         for (way, name) in WAYS.into_iter().enumerate() {
             let mut tables = work.start.clone();
             let mut answers = vec![0; work.calls.len()];
             let pieces = work.calls.chunks(PIECE).zip(work.words.chunks(16 * PIECE)).zip(answers.chunks_mut(PIECE));
-            for (((calls, words), answers), best) in pieces.zip(&mut best) {
+            for (((calls, words), answers), best) in pieces.zip(best.iter_mut()) {
                 best[way] = best[way].min(run(name, &mut tables, calls, words, answers));
             }
-            match &agreed {
-                None => agreed = Some((tables, answers)),
-                Some((left, answered)) => {
-                    let same = *answered == answers && *left == tables;
-                    assert!(same, "{name:?} differs in {} N {}", work.name, work.nodes);
-                }
-            }
+            let (left, answered) = agreed.get_or_insert_with(|| (tables.clone(), answers.clone()));
+            assert!(*answered == answers && *left == tables, "{name:?} differs in {} N {}", work.name, work.nodes);
         }
     }
-    let each = [0, 1, 2, 3].map(|way| {
-        let all: Duration = best.iter().map(|piece| piece[way]).sum();
-        all.as_nanos() as f64 / work.calls.len() as f64
-    });
-    format!(
-        "| {} | {} | {} | {:.1} | {:.1} | {:.2} | {:.1} | {:.1} | {:.2} |",
-        work.nodes,
-        work.name,
-        work.calls.len(),
-        each[0],
-        each[1],
-        each[0] / each[1],
-        each[2],
-        each[3],
-        each[2] / each[3],
-    )
+
+    /// The times of a call as a line of the table.
+    fn line(&self) -> String {
+        let Work { name, nodes, calls, .. } = &self.work;
+        let [single, fast_single, replay, fast_replay] = [0, 1, 2, 3].map(|way| {
+            let all: Duration = self.best.iter().map(|piece| piece[way]).sum();
+            all.as_nanos() as f64 / calls.len() as f64
+        });
+        format!(
+            "| {nodes} | {name} | {} | {single:.1} | {fast_single:.1} | {:.2} | {replay:.1} | {fast_replay:.1} | {:.2} |",
+            calls.len(),
+            single / fast_single,
+            replay / fast_replay,
+        )
+    }
 }
 
 /// Nanoseconds of one turn, out of some hundred.

@@ -1,32 +1,50 @@
-//! The machine's tables, tested at once, and the search for room.
+//! The machine's tables, tested once, and the search for room.
 
 use crate::record::Record;
-use crate::search::lowest_zero;
+use crate::search::lowest_free;
 
-/// The machine, and where each node's pages begin.
+/// A node that can serve, and its lowest free page.
+#[derive(Clone, Copy)]
+pub struct Room {
+    pub node: u8,
+    pub page: u32,
+}
+
+/// So many nearest nodes are looked for one by one before a row is sorted.
+const PICKS: usize = 3;
+
+/// near(x) without x, once it was needed; no nodes before.
+#[derive(Clone, Copy)]
+struct Row {
+    length: u8,
+    nodes: [u8; 64],
+}
+
+/// The machine, where each node's pages begin, and the rows sorted so far (none at first).
 pub struct Map<'a> {
     pub nodes: usize,
     pub cpus: &'a [u8],
     distances: &'a [u8],
-    pub starts: [u32; 65],
+    pub starts: &'a Starts,
+    rows: Vec<Row>,
 }
 
-/// The starts of the nodes, if the counts keep the rules.
-pub fn starts_of(counts: &[u32], pages: usize) -> Option<[u32; 65]> {
-    if counts.is_empty() || counts.len() > 64 || counts.iter().fold(0, |most, count| (*count).max(most)) > 65_536 {
-        return None;
+/// Where each node begins, and where the last one ends.
+pub type Starts = [u32; 65];
+
+/// Finds the starts of the nodes; do the counts keep the rules?
+#[inline]
+pub fn find_starts(starts: &mut Starts, counts: &[u32], pages: usize) -> bool {
+    if counts.is_empty() || counts.len() > 64 {
+        return false;
     }
-    let mut starts = [0; 65];
-    let mut total = 0;
-    for (node, count) in counts.iter().enumerate() {
-        total += count;
-        starts[node + 1] = total;
+    let (mut total, mut most) = (0, 0);
+    for (start, count) in starts[1..].iter_mut().zip(counts) {
+        most = most.max(*count);
+        total += (*count).min(1 << 17);
+        *start = total;
     }
-    if total <= 1_048_576 && pages >= total as usize {
-        Some(starts)
-    } else {
-        None
-    }
+    most <= 65_536 && total <= 1_048_576 && pages >= total as usize
 }
 
 /// The job table has 1 to 64 jobs of six words.
@@ -36,78 +54,117 @@ pub fn jobs_ok(words: usize) -> bool {
 
 impl<'a> Map<'a> {
     /// Tests all tables.
-    pub fn new(counts: &[u32], cpus: &'a [u8], distances: &'a [u8], pages: usize, jobs: usize) -> Option<Map<'a>> {
-        let starts = starts_of(counts, pages)?;
+    pub fn new(
+        starts: &'a mut Starts,
+        counts: &[u32],
+        cpus: &'a [u8],
+        distances: &'a [u8],
+        pages: usize,
+        jobs: usize,
+    ) -> Option<Map<'a>> {
         let nodes = counts.len();
+        let counts_ok = find_starts(starts, counts, pages);
         let cpus_ok = !cpus.is_empty()
             && cpus.len() <= 256
             && usize::from(cpus.iter().fold(0, |most, node| (*node).max(most))) < nodes;
         let distances_ok = distances.len() == nodes * nodes
             && distances.iter().fold(255, |least, one| (*one).min(least)) >= 10
             && distances.iter().step_by(nodes + 1).all(|one| *one == 10);
-        (cpus_ok && distances_ok && jobs_ok(jobs)).then_some(Map { nodes, cpus, distances, starts })
+        if !(counts_ok && cpus_ok && distances_ok && jobs_ok(jobs)) {
+            return None;
+        }
+        Some(Map { nodes, cpus, distances, starts, rows: Vec::new() })
+    }
+
+    /// The node of a page of the machine: as many nodes end at it or before.
+    pub fn node_of(starts: &Starts, nodes: usize, page: usize) -> usize {
+        starts[1..=nodes].iter().filter(|end| **end as usize <= page).count()
     }
 
     /// The lowest free page of a node.
-    fn room(&self, pages: &[u8], node: usize) -> Option<(usize, usize)> {
-        let (start, end) = (self.starts[node] as usize, self.starts[node + 1] as usize);
-        lowest_zero(&pages[start..end]).map(|page| (node, start + page))
+    fn room(&self, pages: &[u8], node: usize) -> Option<Room> {
+        let (start, end) = (self.starts[node], self.starts[node + 1]);
+        let page = lowest_free(&pages[start as usize..end as usize])?;
+        Some(Room { node: node as u8, page: start + page as u32 })
     }
 
-    /// The first node of near(x) among these with room.
-    pub fn near(&self, pages: &[u8], among: u64, x: usize) -> Option<(usize, usize)> {
-        if among >> x & 1 == 1 {
+    /// The first node of near(x) among these with room. No more of the order is found than is needed.
+    pub fn near(&mut self, pages: &[u8], among: u64, x: usize) -> Option<Room> {
+        let here = 1 << x;
+        if among & here != 0 {
             if let Some(found) = self.room(pages, x) {
                 return Some(found);
             }
         }
-        let row = &self.distances[x * self.nodes..x * self.nodes + self.nodes];
-        let mut keys = [0u16; 64];
-        let mut count = 0;
-        let mut rest = among & !(1 << x);
-        while rest != 0 {
-            let node = rest.trailing_zeros() as usize;
-            rest &= rest - 1;
-            keys[count] = u16::from(row[node]) << 8 | node as u16;
-            count += usize::from(row[node] != 255);
-        }
-        self.first_by_key(pages, &mut keys[..count])
+        self.beyond(pages, among & !here, x)
     }
 
-    /// Picks the three nearest one by one, and sorts only if all are full.
-    fn first_by_key(&self, pages: &[u8], keys: &mut [u16]) -> Option<(usize, usize)> {
-        let picked = keys.len().min(3);
-        for turn in 0..picked {
-            for other in turn + 1..keys.len() {
-                if keys[other] < keys[turn] {
-                    keys.swap(other, turn);
+    /// The same without x: the nearest ones are picked one by one; if these are full, the row is sorted and kept.
+    fn beyond(&mut self, pages: &[u8], mut among: u64, x: usize) -> Option<Room> {
+        if self.rows.get(x).is_none_or(|row| row.length == 0) {
+            for _ in 0..PICKS {
+                let node = self.nearest(among, x)?;
+                if let Some(found) = self.room(pages, node) {
+                    return Some(found);
                 }
+                among ^= 1 << node;
             }
-            if let Some(found) = self.room(pages, usize::from(keys[turn] & 255)) {
-                return Some(found);
+            if among == 0 {
+                return None;
             }
+            self.sort_row(x);
         }
-        keys[picked..].sort_unstable();
-        keys[picked..].iter().find_map(|key| self.room(pages, usize::from(key & 255)))
+        let Row { length, nodes } = &self.rows[x];
+        let among = |node: &&u8| among >> **node & 1 == 1;
+        nodes[..usize::from(*length)].iter().filter(among).find_map(|node| self.room(pages, usize::from(*node)))
+    }
+
+    /// Distance and number of a node in row x: the nearer the less, then the lower.
+    fn key(&self, x: usize, node: usize) -> u16 {
+        u16::from(self.distances[x * self.nodes + node]) << 8 | node as u16
+    }
+
+    /// The nearest of these nodes in row x that can be reached.
+    fn nearest(&self, among: u64, x: usize) -> Option<usize> {
+        let (mut rest, mut least) = (among, u16::MAX);
+        while rest != 0 {
+            least = least.min(self.key(x, rest.trailing_zeros() as usize));
+            rest &= rest - 1;
+        }
+        (least < 255 << 8).then_some(usize::from(least & 255))
+    }
+
+    /// Sorts row x.
+    fn sort_row(&mut self, x: usize) {
+        let mut keys = [u16::MAX; 64];
+        for (node, key) in keys[..self.nodes].iter_mut().enumerate() {
+            *key = if node == x { u16::MAX } else { self.key(x, node) };
+        }
+        keys[..self.nodes].sort_unstable();
+        let length = keys.partition_point(|key| *key < 255 << 8) as u8;
+        self.rows.resize(self.nodes, Row { length: 0, nodes: [0; 64] });
+        self.rows[x] = Row { length, nodes: keys.map(|key| key as u8) };
     }
 
     /// The first place with room, from one on and once round; gives the place too.
-    pub fn round(&self, pages: &[u8], record: &Record, from: usize) -> Option<(usize, (usize, usize))> {
-        let length = record.length as usize;
-        let mut place = if from < length { from } else { 0 };
-        for _ in 0..length {
-            if let Some(found) = self.place(pages, record, place) {
-                return Some((place, found));
+    pub fn round(&self, pages: &[u8], record: Record, from: u64) -> Option<(u64, Room)> {
+        let mut place = from;
+        for _ in 0..record.length() {
+            if place >= record.length() {
+                place = 0;
             }
-            place = if place + 1 < length { place + 1 } else { 0 };
+            if let Some(room) = self.place(pages, record, place) {
+                return Some((place, room));
+            }
+            place += 1;
         }
         None
     }
 
     /// A page of the node that a place names, if it is allowed and has room.
-    pub fn place(&self, pages: &[u8], record: &Record, place: usize) -> Option<(usize, usize)> {
-        let node = (record.places >> (8 * place)) as u8 as usize;
-        if node < self.nodes && record.allowed >> node & 1 == 1 {
+    pub fn place(&self, pages: &[u8], record: Record, place: u64) -> Option<Room> {
+        let node = usize::from(record.place(place as usize));
+        if node < self.nodes && record.allowed() >> node & 1 == 1 {
             self.room(pages, node)
         } else {
             None

@@ -9,43 +9,41 @@ pub fn below(nodes: usize) -> u64 {
     }
 }
 
-/// The nodes of these ranks.
+/// The nodes of these ranks: each allowed node takes the next bit.
 fn deposit(ranks: u64, allowed: u64) -> u64 {
     let (mut ranks, mut rest, mut mask) = (ranks, allowed, 0);
     while ranks != 0 && rest != 0 {
-        let lowest = rest & rest.wrapping_neg();
-        if ranks & 1 == 1 {
-            mask |= lowest;
-        }
+        let higher = rest & (rest - 1);
+        mask |= (rest ^ higher) & (ranks & 1).wrapping_neg();
         ranks >>= 1;
-        rest ^= lowest;
+        rest = higher;
     }
     mask
 }
 
-/// The ranks of these nodes.
+/// The ranks of these nodes: each allowed node gives its bit to the next rank.
 fn extract(nodes: u64, allowed: u64) -> u64 {
-    let (mut rest, mut ranks) = (nodes & allowed, 0);
+    let (mut rest, mut rank, mut ranks) = (allowed, 0, 0);
     while rest != 0 {
-        let node = rest.trailing_zeros();
-        ranks |= 1 << (allowed & ((1 << node) - 1)).count_ones();
+        ranks |= (nodes >> rest.trailing_zeros() & 1) << rank;
+        rank += 1;
         rest &= rest - 1;
     }
     ranks
 }
 
-/// User bit b gives the allowed node of rank b mod w.
+/// User bit b gives the allowed node of rank b mod w: the mask is laid over itself shifted by w, 2w, 4w and so on.
 pub fn folded(user: u64, allowed: u64) -> u64 {
     let width = allowed.count_ones();
-    let (mut user, mut ranks) = (user, 0);
-    if width == 0 || width == 64 {
-        return user & allowed;
+    if width == 0 {
+        return 0;
     }
-    while user != 0 {
-        ranks |= user & below(width as usize);
-        user >>= width;
+    let (mut ranks, mut step) = (user, width);
+    while step < 64 && ranks >> step != 0 {
+        ranks |= ranks >> step;
+        step *= 2;
     }
-    deposit(ranks, allowed)
+    deposit(ranks & below(width as usize), allowed)
 }
 
 /// A node of rank r in the old set becomes the node of rank r mod w in the new one.

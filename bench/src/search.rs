@@ -5,7 +5,14 @@ fn has_zero(block: &[u8]) -> bool {
     block.iter().fold(false, |found, byte| found | (*byte == 0))
 }
 
-/// The place of the lowest zero: blocks of 128, then of 16, then bytes.
+/// The lowest zero of a block of at most 16, or its length. No early exit here either.
+fn lowest_in(block: &[u8]) -> usize {
+    let length = block.len() as u8;
+    let places = (0..length).zip(block).map(|(place, byte)| if *byte == 0 { place } else { length });
+    usize::from(places.fold(length, u8::min))
+}
+
+/// The place of the lowest zero: blocks of 128, then of 16, then inside one of 16.
 pub fn lowest_zero(bytes: &[u8]) -> Option<usize> {
     let mut at = 0;
     for size in [128, 16] {
@@ -16,7 +23,9 @@ pub fn lowest_zero(bytes: &[u8]) -> Option<usize> {
             at += size;
         }
     }
-    bytes[at..].iter().position(|byte| *byte == 0).map(|more| at + more)
+    let last = &bytes[at..bytes.len().min(at + 16)];
+    let more = lowest_in(last);
+    (more < last.len()).then_some(at + more)
 }
 
 /// The same, byte by byte.
@@ -38,6 +47,12 @@ mod c {
     }
 }
 pub use c::lowest_zero_by_memchr;
+
+// What the careful Rust searches by.
+#[cfg(feature = "blocks")]
+pub use lowest_zero as lowest_free;
+#[cfg(not(feature = "blocks"))]
+pub use lowest_zero_by_memchr as lowest_free;
 
 #[cfg(test)]
 mod tests {

@@ -6,6 +6,7 @@ use reference::calls::{Call, Tables};
 use spirerivet::Answer;
 
 use crate::fast::{self, Out};
+use crate::list;
 
 /// Who runs the calls, and how.
 #[derive(Clone, Copy, Debug, PartialEq, Eq)]
@@ -93,7 +94,7 @@ pub fn run(way: Way, tables: &mut Tables, calls: &[Call], words: &[u64], answers
         }
         Way::FastReplay => {
             let Tables { counts, cpus, distances, pages, jobs } = tables;
-            fast::replay(counts, cpus, distances, pages, jobs, words, answers).expect("a good list");
+            list::replay(counts, cpus, distances, pages, jobs, words, answers).expect("a good list");
         }
     }
     begin.elapsed()

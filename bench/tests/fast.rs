@@ -56,7 +56,7 @@ fn replays_agree() {
             let mut fast_tables = start;
             let mut answers = vec![0; calls.len()];
             let Tables { counts, cpus, distances, pages, jobs } = &mut fast_tables;
-            let ran = fast::replay(counts, cpus, distances, pages, jobs, &words, &mut answers);
+            let ran = bench::list::replay(counts, cpus, distances, pages, jobs, &words, &mut answers);
             assert_eq!(ran, Ok(calls.len()));
             for (call, answer) in calls.iter().zip(answers) {
                 assert_eq!(answer, word(apply(&mut tables, call)), "seed {seed} {call:?}");
@@ -69,4 +69,39 @@ fn replays_agree() {
 /// A call that has room for its places.
 fn short_list(call: &Call) -> bool {
     !matches!(call, Call::Install { places, .. } if places.len() > 64)
+}
+
+/// Both replays on the same list: the careful one and the library's.
+fn both_replays(start: &Tables, words: &[u64], room: usize) -> Result<usize, u8> {
+    let (mut one, mut other) = (start.clone(), start.clone());
+    let (mut answers, mut expected) = (vec![7; room], vec![7; room]);
+    let Tables { counts, cpus, distances, pages, jobs } = &mut one;
+    let ran = bench::list::replay(counts, cpus, distances, pages, jobs, words, &mut answers);
+    let Tables { counts, cpus, distances, pages, jobs } = &mut other;
+    let told = spirerivet::replay(counts, cpus, distances, pages, jobs, words, &mut expected);
+    assert_eq!(ran, told.map_err(|refusal| refusal.number()));
+    assert!(one == other && answers == expected);
+    ran
+}
+
+#[test]
+fn bad_lists_are_refused_alike() {
+    for seed in 0..60 {
+        let (start, calls) = list(seed, 20);
+        let calls: Vec<Call> = calls.into_iter().filter(short_list).collect();
+        let words: Vec<u64> = calls.iter().flat_map(words_of).collect();
+        assert_eq!(both_replays(&start, &words, calls.len()), Ok(calls.len()));
+        assert_eq!(both_replays(&start, &words, calls.len() - 1), Err(11));
+        assert_eq!(both_replays(&start, &words[1..], calls.len()), Err(13));
+        for kind in [0, 6, u64::MAX] {
+            let mut words = words.clone();
+            words[16 * (seed as usize % calls.len())] = kind;
+            assert_eq!(both_replays(&start, &words, calls.len()), Err(13));
+        }
+        let install = [4, 0, 4, 0, 0, 65, 0, 0, 0, 0, 0, 0, 0, 0, 0, 0];
+        assert_eq!(both_replays(&start, &install, 1), Err(13));
+        let mut broken = start.clone();
+        broken.distances[0] = 11;
+        assert_eq!(both_replays(&broken, &words, 0), Err(1));
+    }
 }

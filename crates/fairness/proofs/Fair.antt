@@ -18,7 +18,8 @@ use Rattle.rules.specs.SearchOrder.{Try, nodeAt}
 use Rattle.rules.specs.Calls.{Tables}
 use Rattle.rules.specs.Book.{Call}
 use Rattle.rules.proofs.Masks.{in-false}
-use Rattle.fairness.specs.Demand3.{jobIn, Grant, grants, row, isOpen, placeOpen, placeGranted, nodeGranted, timesPlace, timesNode, FairPlaces, FairNodes, Demand3}
+use Rattle.fairness.specs.Demand3.{jobIn, Grant, grants, row, isOpen, placeOpen, placeGranted, nodeGranted, timesPlace, timesNode, FairPlaces, FairNodes}
+use Rattle.fairness.specs.Demand3.{Demand3}
 use Rattle.fairness.proofs.Turns.{upto, hits, is, is-other, round, Under, upto-all, upto-is, round-once, Walk, at-least, exactly}
 use Rattle.fairness.proofs.Search.{first-around, RingGrant, ring-grant, InterleaveGrant, interleave-grant}
 use Rattle.fairness.proofs.Kept.{Served, Linked, linked, linked-drop, linked-take}
@@ -88,28 +89,25 @@ place-once L p l = round-once L (is p) ∙ upto-is p L l
 ring-fair : (m : Machine) (j : ℕ) (P : Job) → P .mode ≡ 5 → (c : ℕ) (gs : List Grant) → Linked m j P c gs → (k : ℕ) → length gs ≡ k * P .len
     → FairPlaces m j (P .len) k gs
 unfolding Under
-ring-fair m j P five c gs l k long = record { at-least = least; exactly = exact }
-  where
-    least : (p : ℕ) → p < P .len → Each (λ g. placeOpen m (g .before) j p ≡ true) gs → k ≤ timesPlace m j p gs
-    least p small o =
-        let r = ring-places m j P (is p) c gs five l (open-missed m j P p gs o) in
-        omega (
-          arith,
-          at-least (P .len) (is p) c (r .places) (r .walks) k (r .as-many ∙ long),
-          r .counts p,
-          ap (λ (x : ℕ). k * x) (place-once (P .len) p small),
-          mul-one k,
-        )
-
-    exact : Each (λ g. (q : ℕ) → q < P .len → placeOpen m (g .before) j q ≡ true) gs → (p : ℕ) → p < P .len → timesPlace m j p gs ≡ k
-    exact o p small =
-        let r = ring-places m j P (λ _. 1) c gs five l (all-missed m j P gs o) in
-        let once : upto (round (P .len) (λ _. 1)) (P .len) ≡ P .len = upto-all (P .len) in
-        r .counts p
-        ∙ exactly (P .len) (is p) (λ _. 1) (λ i z. absurd (omega arith)) c (r .places) (r .walks) (hits-all (r .places)) k
-        (r .as-many ∙ long ∙ ap (λ (x : ℕ). k * x) (sym once))
-        ∙ ap (λ (x : ℕ). k * x) (place-once (P .len) p small)
-        ∙ mul-one k
+ring-fair m j P five c gs l k long = record {
+  at-least = λ p small o.
+      let r = ring-places m j P (is p) c gs five l (open-missed m j P p gs o) in
+      omega (
+        arith,
+        at-least (P .len) (is p) c (r .places) (r .walks) k (r .as-many ∙ long),
+        r .counts p,
+        ap (λ (x : ℕ). k * x) (place-once (P .len) p small),
+        mul-one k,
+      );
+  exactly = λ o p small.
+      let r = ring-places m j P (λ _. 1) c gs five l (all-missed m j P gs o) in
+      let once : upto (round (P .len) (λ _. 1)) (P .len) ≡ P .len = upto-all (P .len) in
+      r .counts p
+      ∙ exactly (P .len) (is p) (λ _. 1) (λ i z. absurd (omega arith)) c (r .places) (r .walks) (hits-all (r .places)) k
+      (r .as-many ∙ long ∙ ap (λ (x : ℕ). k * x) (sym once))
+      ∙ ap (λ (x : ℕ). k * x) (place-once (P .len) p small)
+      ∙ mul-one k;
+}
 
 ring-pages : (m : Machine) (j : ℕ) (P : Job) (c : ℕ) (gs : List Grant) → P .mode ≡ 5 → Linked m j P c gs
     → Each (λ g. (p : ℕ) × (placeGranted m j g ≡ some p) × (nodeGranted m g ≡ nodeAt (jobIn (g .before) j) p)) gs

@@ -1,7 +1,8 @@
--- What one call does to a job whose policy it may not set: nothing to its record, or a grant that moves its cursor; and so along a list.
+-- What one call does to a job whose policy it may not set: nothing to its record, or a grant that moves its cursor, or a clear after
+-- which it gets no more grants; and so along a list.
 -- Assumes nothing.
 use Prim.Native.Nat.{ℕ, zero, suc}
-use mathlib.Core.Path.{_≡_, refl, sym, subst}
+use mathlib.Core.Path.{_≡_, refl, sym, ap, subst, _∙_}
 use mathlib.Core.Logic.{_≢_}
 use mathlib.Core.Bool.{Bool, true, false, false≢true}
 use mathlib.Core.Option.{some}
@@ -10,14 +11,17 @@ use borrow.Author.Tests.{eqb-true, eqb-false, eq-eqb, ne-eqb, ltb-true}
 use lib.ListN.{length, take, drop}
 use lib.Dec.{eqb}
 use Rattle.rules.specs.Machine.{Machine, nodeCount}
-use Rattle.rules.specs.Records.{Job, jobAt, jobCount, withCursor, wellFormed}
+use Rattle.rules.specs.Masks.{has}
+use Rattle.rules.specs.Records.{Job, decode, jobAt, jobCount, fresh, withCursor, wellFormed}
 use Rattle.rules.specs.SearchOrder.{Try, chosen, pickPage}
-use Rattle.rules.specs.Calls.{granted, Tables, Decision, refuse, accept, orderOf, requestDecision, installDecision, rebindDecision, releaseDecision, clearDecision, granting, releasing, storing, onRequest, onRelease, onInstall, onRebind, onClear}
+use Rattle.rules.specs.Calls.{granted, Tables, Decision, refuse, accept, isJob, recordTablesOk, limitOf, orderOf, requestDecision, installDecision}
+use Rattle.rules.specs.Calls.{rebindDecision, releaseDecision, clearDecision, granting, releasing, storing, onRequest, onRelease, onInstall, onRebind, onClear}
 use Rattle.rules.specs.Book.{Call, request, release, install, rebind, clear, withLedger, step}
 use Rattle.rules.proofs.Calls.{accepted, granted-is, granted-in-node}
-use Rattle.rules.proofs.Records.{job-same, job-other}
+use Rattle.rules.proofs.Records.{fresh-storable, job-same, job-other}
 use Rattle.rules.proofs.Kept.{request-good}
 use Rattle.fairness.specs.Demand3.{jobIn, Grant, grantBy, grantIn, grants, setsPolicy, isRefused, PolicyKept, nodeGranted}
+use Rattle.fairness.proofs.Search.{not-empty}
 
 -- s is the step of the search that served the granted request g of job j
 pub record Served (m : Machine) (j : ℕ) (g : Grant) (s : Try) : Type 0 where
@@ -25,12 +29,14 @@ pub record Served (m : Machine) (j : ℕ) (g : Grant) (s : Try) : Type 0 where
   pub well-formed : wellFormed (nodeCount m) (jobIn (g .before) j) ≡ true
   pub chose : chosen m (g .before .ledger) (orderOf m (g .before) j cpu) ≡ some s
   pub in-node : nodeGranted m g ≡ s .node
+  pub allowed : has (limitOf (g .before) j) (s .node) ≡ true
 
 -- what a call does to job j
 data Effect (m : Machine) (j : ℕ) (t : Tables) (c : Call) : Type 0 where
   quiet : grantIn m j t c ≡ [] → jobIn (step m t c .tables) j ≡ jobIn t j → Effect m j t c
   gave : (p : ℕ) (s : Try) → grantIn m j t c ≡ record { before = t; page = p } ∷ [] → Served m j (record { before = t; page = p }) s
       → jobIn (step m t c .tables) j ≡ withCursor (jobIn t j) (s .cursor) → Effect m j t c
+  cleared : grantIn m j t c ≡ [] → limitOf (step m t c .tables) j ≡ 0 → Effect m j t c
 
 -- ---- requests
 
@@ -41,9 +47,10 @@ own-request m t j k (accept s) e =
     let a = accepted m t j k e in
     let page = pickPage m (t .ledger) j (s .node) in
     let answers : step m t (request j k) .answer ≡ granted (s .node) page = rw e in
+    let g = granted-is m t j k answers in
     let lt = ltb-true j (jobCount (length (t .records))) (a .0 .job) in
     gave page s (rw (eq-eqb j j refl, e))
-    (record { cpu = k; well-formed = a .0 .formed; chose = a .1; in-node = granted-in-node (granted-is m t j k answers) })
+    (record { cpu = k; well-formed = a .0 .formed; chose = a .1; in-node = granted-in-node g; allowed = g .allowed })
     (rw e (job-same (t .records) j (withCursor (jobIn t j) (s .cursor)) lt (request-good m t j k s e .storable)))
 
 other-request : (m : Machine) (t : Tables) (j i k : ℕ) → i ≢ j → (d : Decision Try) → requestDecision m t i k ≡ d → Effect m j t (request i k)
@@ -72,14 +79,36 @@ unfolding storing isRefused
 storing-keeps t j i (refuse r) u = refl
 storing-keeps t j i (accept x) u = job-other (t .records) i j x (λ e. false≢true (u (eq-eqb i j e)))
 
+-- "Clear makes the record fresh": a fresh job may use no node
+fresh-limit : fresh .allowed ≡ 0
+unfolding fresh decode
+fresh-limit = refl
+
+own-clear : (m : Machine) (t : Tables) (j : ℕ) (a b : Bool) → recordTablesOk (nodeCount m) (length (t .records)) ≡ a → isJob (t .records) j ≡ b
+    → Effect m j t (clear j)
+unfolding step onClear clearDecision storing withLedger grantIn limitOf
+own-clear m t j true true e f =
+    let lt = ltb-true j (jobCount (length (t .records))) f in
+    cleared refl (rw (e, f) (ap (λ (x : Job). x .allowed) (job-same (t .records) j fresh lt fresh-storable) ∙ fresh-limit))
+own-clear m t j true false e f = quiet refl (rw (e, f))
+own-clear m t j false b e f = quiet refl (rw e)
+
+clear-effect : (m : Machine) (t : Tables) (j i : ℕ) → Effect m j t (clear i)
+unfolding step onClear withLedger grantIn
+clear-effect m t j i = go (eqb i j) refl
+  where
+    go : (b : Bool) → eqb i j ≡ b → Effect m j t (clear i)
+    go true e = subst (λ (x : ℕ). Effect m j t (clear x)) (sym (eqb-true i j e)) (own-clear m t j _ _ refl refl)
+    go false e = quiet refl (storing-keeps t j i (clearDecision (nodeCount m) (t .records) i) (λ q. absurd (false≢true (sym e ∙ q))))
+
 effect : (m : Machine) (j : ℕ) (t : Tables) (c : Call) → (setsPolicy j c ≡ true → isRefused (step m t c .answer) ≡ true) → Effect m j t c
-unfolding step onRelease onInstall onRebind onClear withLedger grantIn setsPolicy
+unfolding step onRelease onInstall onRebind withLedger grantIn setsPolicy
 effect m j t (request i k) u = request-effect m t j i k
 effect m j t (release i p) u = quiet refl (releasing-keeps t j p (releaseDecision (m .pageCounts) t i p))
 effect m j t (install i mode flag user places) u =
     quiet refl (storing-keeps t j i (installDecision (nodeCount m) (t .records) i mode flag user places) u)
 effect m j t (rebind i allowed) u = quiet refl (storing-keeps t j i (rebindDecision (nodeCount m) (t .records) i allowed) u)
-effect m j t (clear i) u = quiet refl (storing-keeps t j i (clearDecision (nodeCount m) (t .records) i) u)
+effect m j t (clear i) u = clear-effect m t j i
 
 -- ---- a list of calls
 
@@ -94,6 +123,18 @@ unfolding Linked withCursor
 any-cursor m j P a c [] l = tt
 any-cursor m j P a c (g ∷ gs) l = (l .0, l .1, l .2, any-cursor m j P a (l .1 .cursor) gs (l .3))
 
+-- a job that may use no node, as after a clear, gets no more grants
+no-grants : (m : Machine) (j : ℕ) (t : Tables) (cs : List Call) → limitOf t j ≡ 0 → PolicyKept m j t cs → grants m j t cs ≡ []
+unfolding PolicyKept grants limitOf
+no-grants m j t [] z u = refl
+no-grants m j t (c ∷ cs) z u = go (effect m j t c (u .0)) (λ y. no-grants m j (step m t c .tables) cs y (u .1))
+  where
+    go : Effect m j t c → (limitOf (step m t c .tables) j ≡ 0 → grants m j (step m t c .tables) cs ≡ [])
+        → grantIn m j t c ++ grants m j (step m t c .tables) cs ≡ []
+    go (quiet e s) ih = rw (e, ih (ap (λ (x : Job). x .allowed) s ∙ z))
+    go (gave p s e v q) ih = absurd (false≢true (sym (not-empty (limitOf t j) (s .node) (v .allowed)) ∙ eq-eqb (limitOf t j) 0 z))
+    go (cleared e y) ih = rw (e, ih y)
+
 pub linked : (m : Machine) (j : ℕ) (t : Tables) (cs : List Call) → PolicyKept m j t cs → Linked m j (jobIn t j) (jobIn t j .cursor) (grants m j t cs)
 unfolding PolicyKept Linked grants withCursor
 linked m j t [] u = tt
@@ -102,6 +143,7 @@ linked m j t (c ∷ cs) u = go (effect m j t c (u .0)) (linked m j (step m t c .
     go : Effect m j t c → Linked m j (jobIn (step m t c .tables) j) (jobIn (step m t c .tables) j .cursor) (grants m j (step m t c .tables) cs)
         → Linked m j (jobIn t j) (jobIn t j .cursor) (grantIn m j t c ++ grants m j (step m t c .tables) cs)
     go (quiet e s) ih = rw (e, ← s) ih
+    go (cleared e z) ih = rw (e, no-grants m j (step m t c .tables) cs z (u .1)) tt
     go (gave p s e v q) ih = rw e (refl, s, v, any-cursor m j (jobIn t j) (s .cursor) (s .cursor) (grants m j (step m t c .tables) cs) (rw q at ih))
 
 pub linked-drop : (m : Machine) (j : ℕ) (P : Job) (c : ℕ) (gs : List Grant) (s : ℕ) → Linked m j P c gs → (d : ℕ) × Linked m j P d (drop s gs)

@@ -2,3 +2,4 @@ pub mod Turns
 pub mod Search
 pub mod Kept
 pub mod Fair
+pub mod Barred

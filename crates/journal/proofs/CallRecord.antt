@@ -2,16 +2,15 @@
 -- Assumes nothing.
 use Prim.Native.Nat.{ℕ, zero, suc, _+_, _-_, _≤_, _<_}
 use mathlib.Core.Path.{_≡_, refl, sym, ap, _∙_}
-use mathlib.Core.Bool.{Bool, true, _&&_, _||_, and-assoc, and-true}
+use mathlib.Core.Bool.{Bool, true, _&&_, _||_}
 use mathlib.Core.List.{List, _∷_, _++_}
-use mathlib.Core.Option.{none, some}
 use native.Mathlib.Nat.{zero-add}
 use native.Mathlib.Numerals.{add-one}
 use native.Mathlib.Omega.{arith}
 use borrow.Author.Tests.{leb-true, le-leb}
 use lib.Dec.{leb, ltb, eqb}
-use lib.ListN.{length, getD, take, drop, set, replicate, length-take, length-replicate, drop-of-length-le}
-use lib.Seq.{drop-cons, getD-take, getD-drop, paste, paste-zero, paste-suc, take-take, take-length, take-append-add}
+use lib.ListN.{length, getD, take, drop, set, replicate, length-replicate}
+use lib.Seq.{getD-take, getD-drop, paste, paste-zero, paste-suc, take-take, take-length, take-append-add}
 use Rattle.rules.specs.Basics.{allAt}
 use Rattle.rules.specs.Records.{placesPerJob}
 use Rattle.rules.specs.Journal.{Kind, request′, release′, rebind′, install′, clear′, unknownKind, byteAt, part, marked, kindOf, kindKnown, used, recordSize, recordOk, callIn}
@@ -31,41 +30,11 @@ kind-unknown (suc (suc (suc (suc zero)))) a b c d e = absurd (d refl)
 kind-unknown (suc (suc (suc (suc (suc zero))))) a b c d e = absurd (e refl)
 kind-unknown (suc (suc (suc (suc (suc (suc n)))))) a b c d e = refl
 
--- ---- a test of each entry with its number
-
-module _ (p : ℕ → ℕ → Bool) where
-  -- one entry more is tested
-  pub allAt-step : (xs : List ℕ) (i : ℕ) (ok : Bool) → i < length xs
-      → (ok && allAt p i (drop i xs)) ≡ ((ok && p i (getD xs i 0)) && allAt p (i + 1) (drop (i + 1) xs))
-  unfolding allAt
-  allAt-step xs i ok h = rw (add-one, drop-cons xs i 0, and-assoc)
-
-  -- all are tested
-  pub allAt-end : (xs : List ℕ) (i : ℕ) (ok : Bool) → length xs ≤ i → (ok && allAt p i (drop i xs)) ≡ ok
-  unfolding allAt
-  allAt-end xs i ok h = rw (drop-of-length-le xs h) (and-true ok)
-
 -- ---- "Unused bytes are zero"
 
 -- byte i of a record may be b: it stands before the job, or it is used, or it is zero
 abbrev pub mayBe : Kind → ℕ → ℕ → ℕ → Bool
 mayBe kind len i b = ltb i 3 || used kind len i || eqb b 0
-
--- the first 32 of the bytes are 32
-first-bytes : (bs : List ℕ) → recordSize ≤ length bs → length (take recordSize bs) ≡ recordSize
-first-bytes bs h = simp length-take (omega arith)
-
--- one byte more is tested
-pub unused-step : (kind : Kind) (len : ℕ) (bs : List ℕ) (i : ℕ) (ok : Bool) {u : Bool} → recordSize ≤ length bs → i < recordSize → u ≡ used kind len i
-    → (ok && allAt (mayBe kind len) i (drop i (take recordSize bs)))
-    ≡ ((ok && (ltb i 3 || u || eqb (getD bs i 0) 0)) && allAt (mayBe kind len) (i + 1) (drop (i + 1) (take recordSize bs)))
-unused-step kind len bs i ok h l e =
-    allAt-step (mayBe kind len) (take recordSize bs) i ok (rw (first-bytes bs h) l) ∙ rw (getD-take recordSize bs i 0 l, e)
-
--- all 32 bytes are tested
-pub unused-end : (kind : Kind) (len : ℕ) (bs : List ℕ) (i : ℕ) (ok : Bool) → recordSize ≤ length bs → recordSize ≤ i
-    → (ok && allAt (mayBe kind len) i (drop i (take recordSize bs))) ≡ ok
-unused-end kind len bs i ok h l = allAt-end (mayBe kind len) (take recordSize bs) i ok (rw (first-bytes bs h) l)
 
 -- ---- a record that is undamaged
 

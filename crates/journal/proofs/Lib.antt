@@ -6,3 +6,5 @@ pub mod Answers
 pub mod Output
 pub mod WholeJournal
 pub mod Parts
+pub mod BookRun
+pub mod Unused

@@ -1,3 +1,5 @@
 pub mod Enums
 pub mod Runs
+pub mod BookRun
 pub mod Whole
+pub mod Zeros

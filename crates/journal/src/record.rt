@@ -3,16 +3,18 @@
 ghost use mathlib.Core.Path.{_≡_};
 ghost use mathlib.Core.Bool.{true, _||_};
 ghost use mathlib.Core.Option.{some};
-ghost use Prim.Native.Nat.{_≤_};
+ghost use Prim.Native.Nat.{_+_, _-_, _≤_, _<_};
 ghost use lib.ListN.{length, take};
 ghost use lib.Dec.{ltb, eqb};
 ghost use Rattle.rules.specs.Basics.{allAt};
 ghost use Rattle.rules.specs.Journal.{kindOf, kindKnown, used, recordSize, recordOk, callIn};
 ghost use Rattle.journal.specs.Enums.{kindIn, callOf, placesIn};
+ghost use Rattle.journal.specs.Zeros.{zeroed};
 use super::reading::marked;
 use super::reading::u32_at;
 use super::reading::u64_at;
 use rules::Page;
+use rules::Place;
 
 // "kind (1 request, 2 release, 3 rebind, 4 install, 5 clear)"
 pub enum Kind {
@@ -79,37 +81,43 @@ impl Kind {
             Kind::Unknown => false,
         }
     }
-
-    // A record of this kind, with this list length, uses byte i.
-    pub fn uses(self, len: u8, i: usize) -> bool
-        ensures { λ r. ⌜ r ≡ used (kindIn self) len i ⌝ }
-    {
-        match self {
-            Kind::Request => (3 <= i) & (i <= 4),
-            Kind::Release => (i == 3) | ((8 <= i) & (i <= 11)),
-            Kind::Rebind => (i == 3) | ((8 <= i) & (i <= 15)),
-            Kind::Install => (i == 3)
-                | ((5 <= i) & (i <= 15))
-                | ((16 <= i) & (i < 16 + len as usize)),
-            Kind::Clear => i == 3,
-            Kind::Unknown => false,
-        }
-    }
 }
 
-// "Unused bytes are zero"
+// Of the eight bytes at a place, those from k on are zero.
+fn zero_from(bytes: &[u8], at: usize, k: usize) -> bool
+    requires { ⌜ (at + 8 ≤ length (now bytes)) × (k < 8) ⌝ }
+    ensures { λ r. ⌜ r ≡ zeroed (at + k) (8 - k) (now (bytes .entry)) ⌝ }
+{
+    u64_at(bytes, at) >> (8 * k) == 0
+}
+
+// The places from len on are zero.
+fn places_zero(bytes: &[u8], len: usize) -> bool
+    requires { ⌜ recordSize ≤ length (now bytes) ⌝ }
+    ensures { λ r. ⌜ r ≡ zeroed (16 + len) (16 - len) (now (bytes .entry)) ⌝ }
+{
+    if len < 8 {
+        return zero_from(bytes, 16, len) & zero_from(bytes, 24, 0);
+    }
+    if len < 16 {
+        return zero_from(bytes, 24, len - 8);
+    }
+    true
+}
+
+// "Unused bytes are zero": eight bytes at a time.
 fn unused_zero(bytes: &[u8], kind: Kind, len: u8) -> bool
     requires { ⌜ recordSize ≤ length (now bytes) ⌝ }
     ensures { λ r. ⌜ r ≡ allAt (λ i b. ltb i 3 || used (kindIn kind) len i || eqb b 0) 0 (take recordSize (now (bytes .entry))) ⌝ }
 {
-    let mut ok = true;
-    let mut i = 0;
-    while i < 32 {
-        let used = kind.uses(len, i);
-        ok = ok & ((i < 3) | used | (bytes[i] == 0));
-        i += 1;
+    match kind {
+        Kind::Request => zero_from(bytes, 0, 5) & zero_from(bytes, 8, 0) & places_zero(bytes, 0),
+        Kind::Release => zero_from(bytes, 0, 4) & zero_from(bytes, 8, 4) & places_zero(bytes, 0),
+        Kind::Rebind => zero_from(bytes, 0, 4) & places_zero(bytes, 0),
+        Kind::Install => (bytes[4] == 0) & places_zero(bytes, len as usize),
+        Kind::Clear => zero_from(bytes, 0, 4) & zero_from(bytes, 8, 0) & places_zero(bytes, 0),
+        Kind::Unknown => zero_from(bytes, 0, 3) & zero_from(bytes, 8, 0) & places_zero(bytes, 0),
     }
-    ok
 }
 
 // The record is whole and undamaged.
@@ -161,10 +169,11 @@ pub fn places_in(bytes: &[u8]) -> [u8; 255]
     ensures { λ r. ⌜ r ≡ placesIn (now (bytes .entry)) ⌝ }
 {
     let mut places = [0u8; 255];
-    let mut i = 0;
-    while i < 16 {
-        places[i] = bytes[16 + i];
-        i += 1;
+    let mut place = Place(0);
+    while place.0 < 16 {
+        let at = place.0 as usize;
+        places[at] = bytes[16 + at];
+        place = Place(place.0 + 1);
     }
     places
 }

@@ -23,7 +23,7 @@ use Rattle.rules.proofs.Text.{or-assoc, free, between-one, Number, is-number, N
 use Rattle.nodelist.specs.declared.reader.Item.{Item}
 use Rattle.nodelist.specs.declared.reader.Item.the-variants.{Empty, Number as NumberItem, Dashed, Range, Broken}
 use Rattle.nodelist.specs.declared.reader.Progress.{Progress}
-use Rattle.nodemask.specs.declared.Mask.{Mask}
+use Rattle.nodelist.specs.declared.reader.Numbers.{Numbers}
 use Rattle.nodelist.specs.Reader.{itemsRead, span, progress, withSpan, readOn, answer, ended, Fits, grown, numberBelow, rangeBelow, withDigit, withDash, withByte, closed, stepped}
 
 -- ---- the numbers of an item stay small
@@ -200,18 +200,18 @@ span-lt : (low high : ℕ) → high < maskBits → span low high < 2 ^ maskBits
 span-lt low high h = lt-of-le-of-lt (sub-le (allNodes (high + 1)) (allNodes low)) (lt-of-lt-of-le (ones-lt (high + 1)) (pow-mono {j = maskBits} (omega arith)))
 
 -- where a reader stands after the bytes p of an item: the item was good and its nodes are in, or it was not
-data Closes (limit : ℕ) (m : Mask) (p : List ℕ) (r : Progress) : Type 0 where
-  well : (n : Mask) → isItem limit (split dash p) ≡ true → r ≡ progress n Empty → n .0 < 2 ^ maskBits
+data Closes (limit : ℕ) (m : Numbers) (p : List ℕ) (r : Progress) : Type 0 where
+  well : (n : Numbers) → isItem limit (split dash p) ≡ true → r ≡ progress n Empty → n .0 < 2 ^ maskBits
       → ((k : ℕ) → has (n .0) k ≡ (has (m .0) k || itemHas k (split dash p))) → Closes limit m p r
   ill : isItem limit (split dash p) ≡ false → r ≡ progress m Broken → Closes limit m p r
 
-closes-span : (limit : ℕ) (m : Mask) (p : List ℕ) (low high : ℕ) → isItem limit (split dash p) ≡ true → low ≤ high → high < maskBits
+closes-span : (limit : ℕ) (m : Numbers) (p : List ℕ) (low high : ℕ) → isItem limit (split dash p) ≡ true → low ≤ high → high < maskBits
     → m .0 < 2 ^ maskBits → ((k : ℕ) → itemHas k (split dash p) ≡ between low high k) → Closes limit m p (progress (withSpan m low high) Empty)
 closes-span limit m p low high e l s h f =
     well (withSpan m low high) e refl (or-lt maskBits (m .0) (span low high) h (span-lt low high s))
     (λ k. has-or (m .0) (span low high) k ∙ ap (λ (b : Bool). has (m .0) k || b) (span-has low high k l ∙ sym (f k)))
 
-closes : {limit : ℕ} {item : Item} {p : List ℕ} (m : Mask) → limit ≤ maskBits → m .0 < 2 ^ maskBits → Reads limit item p → Closes limit m p (closed m item)
+closes : {limit : ℕ} {item : Item} {p : List ℕ} (m : Numbers) → limit ≤ maskBits → m .0 < 2 ^ maskBits → Reads limit item p → Closes limit m p (closed m item)
 unfolding closed split isItem itemHas isNumber isEmpty
 closes m l h nothing = ill refl refl
 closes {limit} m l h (number {a = a} n) =
@@ -238,11 +238,11 @@ closes {limit} m l h (broken {p = p} n) = ill (ap (λ (t : List ℕ). isItem lim
 -- ---- the whole text
 
 -- what the items of a text name, with what is named already
-abbrev known : ℕ → Mask → List ℕ → Option ℕ
+abbrev known : ℕ → Numbers → List ℕ → Option ℕ
 known limit m text = cond (isItems limit text) (some (maskOf maskBits (λ k. has (m .0) k || names text k))) none
 
 -- a broken item stays broken
-stepped-broken : (limit : ℕ) (m : Mask) (x : ℕ) → stepped limit (progress m Broken) x ≡ progress m Broken
+stepped-broken : (limit : ℕ) (m : Numbers) (x : ℕ) → stepped limit (progress m Broken) x ≡ progress m Broken
 unfolding closed stepped withByte withDash withDigit
 stepped-broken limit m x = go (eqb x comma) (eqb x dash) (between 48 57 x)
   where
@@ -252,20 +252,20 @@ stepped-broken limit m x = go (eqb x comma) (eqb x dash) (between 48 57 x)
     go false false true = refl
     go false false false = refl
 
-broken-stays : (limit : ℕ) (m : Mask) (xs : List ℕ) → ended (readOn limit (progress m Broken) xs) ≡ none
+broken-stays : (limit : ℕ) (m : Numbers) (xs : List ℕ) → ended (readOn limit (progress m Broken) xs) ≡ none
 unfolding readOn ended closed
 broken-stays limit m [] = refl
 broken-stays limit m (x ∷ xs) = ap (λ (r : Progress). ended (readOn limit r xs)) (stepped-broken limit m x) ∙ broken-stays limit m xs
 
 -- the item ends and the text with it
-known-last : {limit : ℕ} {m : Mask} {p : List ℕ} {r : Progress} → free comma p ≡ true → Closes limit m p r → answer (r .named) (r .item) ≡ known limit m p
+known-last : {limit : ℕ} {m : Numbers} {p : List ℕ} {r : Progress} → free comma p ≡ true → Closes limit m p r → answer (r .named) (r .item) ≡ known limit m p
 known-last {limit} {m} {p} f (well n e q h g) =
     rw (q, items-one limit p f, e)
     (ap some (maskOf-is maskBits (n .0) (λ k. has (m .0) k || names p k) h (λ k l. g k ∙ ap (λ (b : Bool). has (m .0) k || b) (sym (names-one p k f)))))
 known-last {limit} {m} {p} f (ill e q) = rw (q, items-one limit p f, e)
 
 -- the item ends at a comma
-known-more : (limit : ℕ) (m n : Mask) (p q : List ℕ) → free comma p ≡ true → isItem limit (split dash p) ≡ true
+known-more : (limit : ℕ) (m n : Numbers) (p q : List ℕ) → free comma p ≡ true → isItem limit (split dash p) ≡ true
     → ((k : ℕ) → has (n .0) k ≡ (has (m .0) k || itemHas k (split dash p))) → known limit n q ≡ known limit m (p ++ comma ∷ q)
 known-more limit m n p q f e g =
     rw (items-more limit p q f, e)
@@ -274,11 +274,11 @@ known-more limit m n p q f e g =
     (λ k l. rw (g k, names-more p q k f) (or-assoc (has (m .0) k) (itemHas k (split dash p)) (names q k)))))
 
 -- or it ends badly
-known-none : (limit : ℕ) (m : Mask) (p q : List ℕ) → free comma p ≡ true → isItem limit (split dash p) ≡ false → known limit m (p ++ comma ∷ q) ≡ none
+known-none : (limit : ℕ) (m : Numbers) (p q : List ℕ) → free comma p ≡ true → isItem limit (split dash p) ≡ false → known limit m (p ++ comma ∷ q) ≡ none
 known-none limit m p q f e = rw (items-more limit p q f, e)
 
 -- a text is read as document 01 says, from wherever a reader stands in it
-reads-rest : (limit : ℕ) → limit ≤ maskBits → (rest : List ℕ) {item : Item} {p : List ℕ} (m : Mask) → m .0 < 2 ^ maskBits → free comma p ≡ true
+reads-rest : (limit : ℕ) → limit ≤ maskBits → (rest : List ℕ) {item : Item} {p : List ℕ} (m : Numbers) → m .0 < 2 ^ maskBits → free comma p ≡ true
     → Reads limit item p → ended (readOn limit (progress m item) rest) ≡ known limit m (p ++ rest)
 unfolding readOn stepped ended all
 reads-rest limit l [] {item} {p} m h f r = rw (append-nil p) (known-last f (closes m l h r))
@@ -288,7 +288,7 @@ reads-rest limit l (x ∷ xs) {item} {p} m h f r =
     (λ e. reads-rest limit l xs m h (all-append _ p (x ∷ []) f (rw e)) (reads-byte x r))
   where
     go : (b : Bool) → eqb x comma ≡ b → Closes limit m p (closed m item)
-        → ((n : Mask) → n .0 < 2 ^ maskBits → ended (readOn limit (progress n Empty) xs) ≡ known limit n xs)
+        → ((n : Numbers) → n .0 < 2 ^ maskBits → ended (readOn limit (progress n Empty) xs) ≡ known limit n xs)
         → (eqb x comma ≡ false → ended (readOn limit (progress m (withByte limit item x)) xs) ≡ known limit m (p ++ x ∷ [] ++ xs))
         → ended (readOn limit (cond b (closed m item) (progress m (withByte limit item x))) xs) ≡ known limit m (p ++ x ∷ xs)
     go true e (well n i q g k) next more =
@@ -338,7 +338,7 @@ dash-fits limit (Dashed a) f = tt
 dash-fits limit (Range a b) f = tt
 dash-fits limit Broken f = tt
 
-closed-fits : (limit : ℕ) (m : Mask) (item : Item) → Fits limit (closed m item .item)
+closed-fits : (limit : ℕ) (m : Numbers) (item : Item) → Fits limit (closed m item .item)
 unfolding closed
 closed-fits limit m Empty = tt
 closed-fits limit m (NumberItem v) = tt

@@ -14,13 +14,14 @@ use borrow.Author.Tests.{eq-eqb, ne-eqb, le-leb, lt-leb, leb-true}
 use Rattle.rules.specs.Basics.{same}
 use Rattle.rules.specs.Machine.{nodesOk}
 use Rattle.rules.specs.Calls.{refuse, accept, unless}
-use Rattle.rules.specs.Masks.{maskBits, below, has, allNodes, rank, size, maskOf}
+use Rattle.rules.specs.Masks.{maskBits, below, bit, has, allNodes, rank, size, maskOf}
 use Rattle.rules.specs.Text.{bang, plus, allWord, longestText, isItems, names, noText, allText, items, except, ranks, formBy, formOf, formOk, formMask, readText}
 use Rattle.rules.proofs.Lists.{both-true, fails}
-use Rattle.rules.proofs.Masks.{rank-le, maskOf-lt, has-maskOf, maskOf-same, maskOf-narrow, maskOf-not}
+use Rattle.rules.proofs.Masks.{bit-above, rank-le, maskOf-lt, has-maskOf, maskOf-same, maskOf-narrow, maskOf-not}
 use Rattle.rules.proofs.Text.{names-below}
+use Rattle.nodemask.specs.Ranks.{rankedIn}
 use Rattle.nodelist.specs.Reader.{itemsRead}
-use Rattle.nodelist.specs.Forms.{Below, byRank, ranked, exceptFor, rankedFor, formRead, decided}
+use Rattle.nodelist.specs.Forms.{Below, exceptFor, rankedFor, formRead, decided}
 
 -- ---- the word `all`
 
@@ -112,17 +113,26 @@ read-except n allowed text l = go (isItems n text) refl
     go false e = refl
 
 -- "after `+` they are ranks in the allowed set, below its size"
-pub read-ranks : (n allowed : ℕ) (text : List ℕ) → n ≤ maskBits
-    → rankedFor n allowed (itemsRead (size maskBits allowed) text) ≡ formRead n allowed (ranks text)
-unfolding itemsRead formRead formOk formMask ranked
-read-ranks n allowed text l = go (isItems (size maskBits allowed) text)
+pub read-ranks : (n allowed : ℕ) (text : List ℕ) → n ≤ maskBits → allowed < 2 ^ n
+    → rankedFor allowed (itemsRead (size maskBits allowed) text) ≡ formRead n allowed (ranks text)
+unfolding itemsRead formRead formOk formMask rankedIn
+read-ranks n allowed text l small = go (isItems (size maskBits allowed) text)
   where
-    member : (k : ℕ) → k < n → byRank allowed (maskOf maskBits (names text)) k ≡ (has allowed k && names text (rank allowed k))
+    member : (k : ℕ) → k < maskBits → (has allowed k && has (maskOf maskBits (names text)) (rank allowed k)) ≡ (has allowed k && names text (rank allowed k))
     member k h = ap (λ (t : Bool). has allowed k && t) (has-maskOf maskBits (names text) (rank allowed k) (omega (arith, rank-le allowed k)))
 
+    -- no node from N on is allowed
+    past : (k : ℕ) → n ≤ k → (has allowed k && names text (rank allowed k)) ≡ false
+    past k h = ap (λ (t : Bool). t && names text (rank allowed k)) (ne-eqb (bit allowed k) 1 (λ e. omega (arith, bit-above n allowed k small h)))
+
     go : (b : Bool)
-        → rankedFor n allowed (cond b (some (maskOf maskBits (names text))) none) ≡ cond b (some (maskOf n (λ k. has allowed k && names text (rank allowed k)))) none
-    go true = ap some (maskOf-same n (byRank allowed (maskOf maskBits (names text))) (λ k. has allowed k && names text (rank allowed k)) member)
+        → rankedFor allowed (cond b (some (maskOf maskBits (names text))) none)
+        ≡ cond b (some (maskOf n (λ k. has allowed k && names text (rank allowed k)))) none
+    go true =
+        ap some
+        (maskOf-same maskBits (λ k. has allowed k && has (maskOf maskBits (names text)) (rank allowed k))
+        (λ k. has allowed k && names text (rank allowed k)) member
+        ∙ maskOf-narrow (λ k. has allowed k && names text (rank allowed k)) l past)
     go false = refl
 
 -- the part of a text past its first byte

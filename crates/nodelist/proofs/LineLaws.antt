@@ -26,7 +26,8 @@ unfolding runsFrom runs
 no-run-from m a z = ap runs (no-nodes maskBits m a z)
 
 -- the trailing zeros and ones give the first run from a on
-pub run-from : (m a low ones : ℕ) → a ≤ low → FirstRun maskBits m a low ones → FirstFrom m a (Span low (low + ones - 1))
+pub run-from : (m a low ones : ℕ) → a ≤ low → FirstRun maskBits m a low ones
+    → FirstFrom m a (Span (record { 0 = low }) (record { 0 = low + ones - 1 }))
 unfolding runsFrom
 run-from m a low ones l f =
     let q : low + ones ≡ low + ones - 1 + 1 = omega (arith, f .some) in (

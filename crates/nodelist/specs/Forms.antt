@@ -1,33 +1,26 @@
 -- What each form of a node-list text gives.
 use Prim.Native.Nat.{ℕ, _-_, _^_, _<_}
-use mathlib.Core.Bool.{Bool, _&&_, cond}
+use mathlib.Core.Bool.{cond}
 use mathlib.Core.Option.{Option, none, some}
-use Rattle.rules.specs.Masks.{allNodes, has, rank, maskOf}
+use Rattle.rules.specs.Masks.{allNodes}
 use Rattle.rules.specs.Calls.{Decision, refuse, accept}
 use Rattle.rules.specs.Text.{Form, formOk, formMask}
+use Rattle.nodemask.specs.Ranks.{rankedIn}
 
 -- a mask that was read has no bit at n or above
 abbrev pub Below : ℕ → Option ℕ → Type 0
 Below n (some m) = m < 2 ^ n
 Below n none = Unit {0}
 
--- "after `+` they are ranks in the allowed set": node k is allowed and its rank is one of the ranks
-abbrev pub byRank : ℕ → ℕ → ℕ → Bool
-byRank allowed ranks k = has allowed k && has ranks (rank allowed k)
-
--- the nodes below N of these ranks
-unfoldable pub ranked : ℕ → ℕ → ℕ → ℕ
-ranked n allowed ranks = maskOf n (byRank allowed ranks)
-
 -- "`!` takes all nodes below N not named"
 abbrev pub exceptFor : ℕ → Option ℕ → Option ℕ
 exceptFor n (some m) = some (allNodes n - m)
 exceptFor n none = none
 
--- after `+`: the nodes of the ranks that were read
-abbrev pub rankedFor : ℕ → ℕ → Option ℕ → Option ℕ
-rankedFor n allowed (some ranks) = some (ranked n allowed ranks)
-rankedFor n allowed none = none
+-- "after `+` they are ranks in the allowed set": the nodes of the ranks that were read
+abbrev pub rankedFor : ℕ → Option ℕ → Option ℕ
+rankedFor allowed (some ranks) = some (rankedIn allowed ranks)
+rankedFor allowed none = none
 
 -- the mask of a form, if it is in order
 unfoldable pub formRead : ℕ → ℕ → Form → Option ℕ

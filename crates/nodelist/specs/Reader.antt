@@ -8,7 +8,7 @@ use lib.Dec.{eqb, leb, ltb}
 use Rattle.rules.specs.Basics.{between}
 use Rattle.rules.specs.Masks.{maskBits, allNodes, maskOf}
 use Rattle.rules.specs.Text.{comma, dash, isItems, names}
-use Rattle.nodemask.specs.declared.Mask.{Mask}
+use Rattle.nodelist.specs.declared.reader.Numbers.{Numbers}
 use Rattle.nodelist.specs.declared.reader.Item.{Item}
 use Rattle.nodelist.specs.declared.reader.Item.the-variants.{Empty, Number, Dashed, Range, Broken}
 use Rattle.nodelist.specs.declared.reader.Progress.{Progress}
@@ -55,20 +55,20 @@ withDash Broken = Broken
 unfoldable pub withByte : ℕ → Item → ℕ → Item
 withByte limit item x = cond (eqb x dash) (withDash item) (cond (between 48 57 x) (withDigit limit item (x - 48)) Broken)
 
--- the nodes from low to high
+-- the numbers from low to high
 abbrev pub span : ℕ → ℕ → ℕ
 span low high = allNodes (high + 1) - allNodes low
 
 -- a reader that stands at an item
-abbrev pub progress : Mask → Item → Progress
+abbrev pub progress : Numbers → Item → Progress
 progress m item = record { named = m; item = item }
 
--- a mask with the nodes from low to high
-abbrev pub withSpan : Mask → ℕ → ℕ → Mask
+-- a set with the numbers from low to high
+abbrev pub withSpan : Numbers → ℕ → ℕ → Numbers
 withSpan m low high = record { 0 = bitOr (m .0) (span low high) }
 
 -- "a number or a-b with a at most b": the item ends
-unfoldable pub closed : Mask → Item → Progress
+unfoldable pub closed : Numbers → Item → Progress
 closed m Empty = progress m Broken
 closed m (Number v) = progress (withSpan m v v) Empty
 closed m (Dashed a) = progress m Broken
@@ -84,8 +84,8 @@ unfoldable pub readOn : ℕ → Progress → List ℕ → Progress
 readOn limit r [] = r
 readOn limit r (x ∷ xs) = readOn limit (stepped limit r x) xs
 
--- the mask that is read, if the last item ended well
-abbrev pub answer : Mask → Item → Option ℕ
+-- the set that is read, if the last item ended well
+abbrev pub answer : Numbers → Item → Option ℕ
 answer m Empty = some (m .0)
 answer m (Number v) = none
 answer m (Dashed a) = none
@@ -97,9 +97,9 @@ unfoldable pub ended : Progress → Option ℕ
 ended r = answer (closed (r .named) (r .item) .named) (closed (r .named) (r .item) .item)
 
 -- what the answer of a reader of items stands for
-abbrev pub maskRead : Items → Option ℕ
-maskRead (Named m) = some (m .0)
-maskRead Bad = none
+abbrev pub numbersRead : Items → Option ℕ
+numbersRead (Named m) = some (m .0)
+numbersRead Bad = none
 
 -- "one or more items split by single commas": the numbers that they name, if all are items
 unfoldable pub itemsRead : ℕ → List ℕ → Option ℕ

@@ -26,7 +26,8 @@ runsFrom m a = runs (keep (has m) (from a (maskBits - a)))
 -- what is found is the first run from a on, and the runs past it follow
 abbrev pub FirstFrom : ℕ → ℕ → NextRun → Type 0
 FirstFrom m a Nothing = runsFrom m a ≡ []
-FirstFrom m a (Span low high) = (a ≤ low) × (low ≤ high) × (high < maskBits) × (runsFrom m a ≡ runOf low high ∷ runsFrom m (high + 1))
+FirstFrom m a (Span low high) =
+    (a ≤ low .0) × (low .0 ≤ high .0) × (high .0 < maskBits) × (runsFrom m a ≡ runOf (low .0) (high .0) ∷ runsFrom m (high .0 + 1))
 
 -- a run with a comma before it
 abbrev pub lineRun : Run → List ℕ

@@ -9,7 +9,6 @@ mod forms;
 mod reader;
 mod writer;
 
-use crate::reader::Items;
 use nodemask::Mask;
 use rules::Refusal;
 
@@ -46,11 +45,7 @@ pub fn read_nodes(nodes: usize, allowed: u64, text: &[u8]) -> Reading
     if text.len() > 255 {
         return Reading::Refused(Refusal::BadText);
     }
-    let items = forms::read_form(nodes, limit, text);
-    match items {
-        Items::Named(named) => Reading::Nodes(named),
-        Items::Bad => Reading::Refused(Refusal::BadText),
-    }
+    forms::read_form(nodes, limit, text)
 }
 
 // The text of a mask, `nodes` being N, put at the start of the output.

@@ -4,8 +4,14 @@ ghost use mathlib.Core.Path.{_≡_};
 ghost use Prim.Native.Nat.{_<_, _≤_};
 ghost use lib.Bits.{bitOr};
 ghost use Rattle.rules.specs.Masks.{maskBits};
-ghost use Rattle.nodelist.specs.Reader.{Fits, grown, numberBelow, rangeBelow, withDigit, withDash, withByte, span, closed, stepped, ended, maskRead, itemsRead};
+ghost use Rattle.nodelist.specs.Reader.{Fits, grown, numberBelow, rangeBelow, withDigit, withDash, withByte};
+ghost use Rattle.nodelist.specs.Reader.{span, closed, stepped, ended, numbersRead, itemsRead};
+use nodemask;
 use nodemask::Mask;
+use nodemask::Ranks;
+
+// A set of numbers below 64: bit n stands for n. The form of a text says whether they are nodes or ranks.
+pub struct Numbers(pub u64);
 
 // The item that is being read.
 pub enum Item {
@@ -18,13 +24,13 @@ pub enum Item {
 
 // Where a reader stands: what the items passed have named, and the item that is being read.
 pub struct Progress {
-    pub named: Mask,
+    pub named: Numbers,
     pub item: Item,
 }
 
 // What the items of a text name.
 pub enum Items {
-    Named(Mask),
+    Named(Numbers),
     Bad,
 }
 
@@ -39,13 +45,31 @@ fn grown(value: usize, digit: usize, limit: usize) -> usize
     value * 10 + digit
 }
 
-// The nodes from low to high put into a mask.
-fn with_span(named: Mask, low: usize, high: usize) -> Mask
-    requires { ⌜ (low ≤ high) × (high < maskBits) ⌝ }
-    ensures { λ r. ⌜ r .0 ≡ bitOr (named .0) (span low high) ⌝ }
-{
-    let under = Mask::all_nodes(low);
-    named.or(under.others(high + 1))
+impl Numbers {
+    pub const EMPTY: Numbers = Numbers(0);
+
+    // The numbers from low to high put in.
+    fn with_span(self, low: usize, high: usize) -> Numbers
+        requires { ⌜ (low ≤ high) × (high < maskBits) ⌝ }
+        ensures { λ r. ⌜ r .0 ≡ bitOr (self .0) (span low high) ⌝ }
+    {
+        let under = nodemask::low_bits(low);
+        Numbers(self.0 | (nodemask::low_bits(high + 1) - under))
+    }
+
+    // The nodes of these numbers.
+    pub fn nodes(self) -> Mask
+        ensures { λ r. ⌜ r .0 ≡ self .0 ⌝ }
+    {
+        Mask::of(self.0)
+    }
+
+    // The ranks of these numbers.
+    pub fn ranks(self) -> Ranks
+        ensures { λ r. ⌜ r .0 ≡ self .0 ⌝ }
+    {
+        Ranks::of(self.0)
+    }
 }
 
 impl Item {
@@ -111,7 +135,7 @@ impl Item {
 }
 
 impl Progress {
-    // The item ends here: a number or a range names its nodes, anything else is broken.
+    // The item ends here: a number or a range names its numbers, anything else is broken.
     fn close(self) -> Progress
         requires { ⌜ Fits maskBits (self .item) ⌝ }
         ensures { λ r. ⌜ r ≡ closed (self .named) (self .item) ⌝ }
@@ -124,7 +148,7 @@ impl Progress {
                 item: Item::Broken,
             },
             Item::Number(value) => Progress {
-                named: with_span(named, value, value),
+                named: named.with_span(value, value),
                 item: Item::Empty,
             },
             Item::Dashed(_) => Progress {
@@ -134,7 +158,7 @@ impl Progress {
             Item::Range(low, high) => {
                 if low <= high {
                     return Progress {
-                        named: with_span(named, low, high),
+                        named: named.with_span(low, high),
                         item: Item::Empty,
                     };
                 }
@@ -169,7 +193,7 @@ impl Progress {
     // The text ends here.
     fn end(self) -> Items
         requires { ⌜ Fits maskBits (self .item) ⌝ }
-        ensures { λ r. ⌜ maskRead r ≡ ended self ⌝ }
+        ensures { λ r. ⌜ numbersRead r ≡ ended self ⌝ }
     {
         let last = self.close();
         let named = last.named;
@@ -187,10 +211,10 @@ impl Progress {
 // The numbers below the limit that a text of items names.
 pub fn read_items(text: &[u8], limit: usize) -> Items
     requires { ⌜ limit ≤ maskBits ⌝ }
-    ensures { λ r. ⌜ maskRead r ≡ itemsRead limit (now (text .entry)) ⌝ }
+    ensures { λ r. ⌜ numbersRead r ≡ itemsRead limit (now (text .entry)) ⌝ }
 {
     let mut at = Progress {
-        named: Mask::EMPTY,
+        named: Numbers::EMPTY,
         item: Item::Empty,
     };
     let mut i = 0;

@@ -10,29 +10,30 @@ ghost use Rattle.nodelist.specs.Writer.{FirstFrom, runOf, lineRun, lineO
 ghost use Rattle.nodelist.specs.Answers.{written};
 use crate::Writing;
 use nodemask::Mask;
+use rules::Node;
 use rules::Refusal;
 
 // A run of nodes from low to high, if there is one.
 pub enum NextRun {
-    Run(usize, usize),
+    Run(Node, Node),
     Nothing,
 }
 
-// The first run of a mask from node `at` on.
-fn next_run(mask: Mask, at: usize) -> NextRun
-    requires { ⌜ at < maskBits ⌝ }
-    ensures { λ r. ⌜ FirstFrom (mask .0) at r ⌝ }
+// The first run of a mask from a node on.
+fn next_run(mask: Mask, from: Node) -> NextRun
+    requires { ⌜ from .0 < maskBits ⌝ }
+    ensures { λ r. ⌜ FirstFrom (mask .0) (from .0) r ⌝ }
 {
-    let above = mask.0 >> at;
+    let above = mask.0 >> from.0;
     if above == 0 {
         return NextRun::Nothing;
     }
-    let low = at + (u64::trailing_zeros(above) as usize);
-    let ones = u64::trailing_zeros(!(mask.0 >> low)) as usize;
-    NextRun::Run(low, low + ones - 1)
+    let low = from.0 + (u64::trailing_zeros(above) as u8);
+    let ones = u64::trailing_zeros(!(mask.0 >> low)) as u8;
+    NextRun::Run(Node(low), Node(low + ones - 1))
 }
 
-// A number put into a line at a place: the place after it.
+// A number put into a line at an index: the index after it.
 fn put_number(line: &mut [u8; 192], at: usize, n: usize) -> usize
     requires { ⌜ (n < maskBits) × (at + length (decimal n) ≤ lineBytes) ⌝ }
     ensures end { λ r. ⌜ r ≡ at + length (decimal n) ⌝ }
@@ -47,19 +48,19 @@ fn put_number(line: &mut [u8; 192], at: usize, n: usize) -> usize
     at + 2
 }
 
-// A comma and a run put into a line at a place: the place after them.
-fn put_run(line: &mut [u8; 192], at: usize, low: usize, high: usize) -> usize
-    requires { ⌜ (low ≤ high) × (high < maskBits) × (at + length (lineRun (runOf low high)) ≤ lineBytes) ⌝ }
-    ensures end { λ r. ⌜ r ≡ at + length (lineRun (runOf low high)) ⌝ }
-    ensures put { λ _. ⌜ now (line .exit) ≡ sets (now (line .entry)) at (lineRun (runOf low high)) ⌝ }
+// A comma and a run put into a line at an index: the index after them.
+fn put_run(line: &mut [u8; 192], at: usize, low: Node, high: Node) -> usize
+    requires { ⌜ (low .0 ≤ high .0) × (high .0 < maskBits) × (at + length (lineRun (runOf (low .0) (high .0))) ≤ lineBytes) ⌝ }
+    ensures end { λ r. ⌜ r ≡ at + length (lineRun (runOf (low .0) (high .0))) ⌝ }
+    ensures put { λ _. ⌜ now (line .exit) ≡ sets (now (line .entry)) at (lineRun (runOf (low .0) (high .0))) ⌝ }
 {
     line[at] = b',';
-    let mid = put_number(line, at + 1, low);
-    if low == high {
+    let mid = put_number(line, at + 1, low.0 as usize);
+    if low.0 == high.0 {
         return mid;
     }
     line[mid] = b'-';
-    put_number(line, mid + 1, high)
+    put_number(line, mid + 1, high.0 as usize)
 }
 
 // All runs of a mask, each with a comma before it, put into a line: its length.
@@ -69,13 +70,13 @@ fn put_runs(line: &mut [u8; 192], mask: Mask) -> usize
     ensures text { λ r. ⌜ take r (now (line .exit)) ≡ lineOf (mask .0) ⌝ }
 {
     let mut len = 0;
-    let mut at = 0;
+    let mut at: u8 = 0;
     while at < 64 {
-        let run = next_run(mask, at);
+        let run = next_run(mask, Node(at));
         match run {
             NextRun::Run(low, high) => {
                 len = put_run(line, len, low, high);
-                at = high + 1;
+                at = high.0 + 1;
             }
             NextRun::Nothing => {
                 return len;

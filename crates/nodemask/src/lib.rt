@@ -1,19 +1,69 @@
-// Masks of nodes: document 01, "Masks". Bit n of a mask stands for node n.
+// Masks of nodes, and sets of ranks: document 01, "Masks". Bit n of a mask stands for node n.
 
 ghost use mathlib.Core.Path.{_≡_};
-ghost use Prim.Native.Nat.{ℕ, _+_, _-_, _%_, _^_, _<_, _≤_};
-ghost use lib.Bits.{bitOr};
+ghost use Prim.Native.Nat.{_-_, _^_, _<_, _≤_};
 ghost use Rattle.rules.specs.Basics.{first, keep, around};
-ghost use Rattle.rules.specs.Masks.{maskBits, has, isNone, below, allNodes, both, within, insert, rank, size, select, lowest, folded, remappedTo, remapped};
+ghost use Rattle.rules.specs.Masks.{maskBits, has, isNone, below, allNodes, both, within, insert, rank, size, lowest, folded, remapped};
 ghost use Rattle.nodemask.specs.Found.{foundNode};
+ghost use Rattle.nodemask.specs.Ranks.{wrapped, ranksIn, rankedIn};
 use rules::Node;
 
 pub struct Mask(pub u64);
+
+// The rank of a node in a set: how many nodes of the set are below it.
+pub struct Rank(pub u32);
+
+// A set of ranks: bit r stands for rank r.
+pub struct Ranks(pub u64);
 
 // The node that a search came to, if there is one.
 pub enum Found {
     At(Node),
     Nothing,
+}
+
+// The bits below n.
+pub fn low_bits(n: usize) -> u64
+    requires { ⌜ n ≤ maskBits ⌝ }
+    ensures { λ r. ⌜ r ≡ allNodes n ⌝ }
+{
+    if n < 64 {
+        return (1u64 << n) - 1;
+    }
+    0xffff_ffff_ffff_ffff
+}
+
+impl Ranks {
+    pub const EMPTY: Ranks = Ranks(0);
+
+    // The ranks that the bits of a word name.
+    pub fn of(word: u64) -> Ranks
+        ensures { λ r. ⌜ r .0 ≡ word ⌝ }
+    {
+        Ranks(word)
+    }
+
+    // The set with one rank more.
+    fn with(self, rank: Rank) -> Ranks
+        requires { ⌜ rank .0 < maskBits ⌝ }
+        ensures { λ r. ⌜ r .0 ≡ insert (self .0) (rank .0) ⌝ }
+    {
+        Ranks(self.0 | (1u64 << rank.0))
+    }
+
+    // The ranks mod w: the whole set shifted by w, twice w, four times w, .. is laid over it.
+    fn wrapped(self, w: u32) -> Ranks
+        requires { ⌜ (0 < w) × (w ≤ maskBits) ⌝ }
+        ensures { λ r. ⌜ r .0 ≡ wrapped w (self .0) ⌝ }
+    {
+        let mut laid = self.0;
+        let mut step = w;
+        while step < 64 {
+            laid = laid | (laid >> step);
+            step += step;
+        }
+        Ranks(laid & low_bits(w as usize))
+    }
 }
 
 impl Mask {
@@ -37,10 +87,7 @@ impl Mask {
         requires { ⌜ n ≤ maskBits ⌝ }
         ensures { λ r. ⌜ r .0 ≡ allNodes n ⌝ }
     {
-        if n < 64 {
-            return Mask((1u64 << n) - 1);
-        }
-        Mask(0xffff_ffff_ffff_ffff)
+        Mask(low_bits(n))
     }
 
     // The node is in the mask.
@@ -48,7 +95,7 @@ impl Mask {
         ensures { λ r. ⌜ r ≡ has (self .0) (node .0) ⌝ }
     {
         if node.0 < 64 {
-            return (self.0 >> node.0) & 1 == 1;
+            return self.0 & (1u64 << node.0) != 0;
         }
         false
     }
@@ -83,13 +130,6 @@ impl Mask {
         Mask(self.0 & other.0)
     }
 
-    // The nodes in one of the masks, or in both.
-    pub fn or(self, other: Mask) -> Mask
-        ensures { λ r. ⌜ r .0 ≡ bitOr (self .0) (other .0) ⌝ }
-    {
-        Mask(self.0 | other.0)
-    }
-
     // The nodes below n that are not in the mask.
     pub fn others(self, n: usize) -> Mask
         requires { ⌜ (n ≤ maskBits) × (self .0 < 2 ^ n) ⌝ }
@@ -115,11 +155,11 @@ impl Mask {
     }
 
     // The rank of a node: the ones below it.
-    pub fn rank(self, node: Node) -> u32
+    pub fn rank(self, node: Node) -> Rank
         requires { ⌜ node .0 < maskBits ⌝ }
-        ensures { λ r. ⌜ r ≡ rank (self .0) (node .0) ⌝ }
+        ensures { λ r. ⌜ r .0 ≡ rank (self .0) (node .0) ⌝ }
     {
-        u64::count_ones(self.0 & ((1u64 << node.0) - 1))
+        Rank(u64::count_ones(self.0 & ((1u64 << node.0) - 1)))
     }
 
     // The lowest node: the zeros under the first one.
@@ -128,25 +168,6 @@ impl Mask {
         ensures { λ r. ⌜ r .0 ≡ lowest maskBits (self .0) ⌝ }
     {
         Node(u64::trailing_zeros(self.0) as u8)
-    }
-
-    // The node of a rank.
-    pub fn select(self, rank: u32) -> Node
-        requires { ⌜ rank < size maskBits (self .0) ⌝ }
-        ensures { λ r. ⌜ r .0 ≡ select maskBits (self .0) rank ⌝ }
-    {
-        let mut left = rank;
-        let mut n: u8 = 0;
-        while n < 64 {
-            if self.has(Node(n)) {
-                if left == 0 {
-                    return Node(n);
-                }
-                left -= 1;
-            }
-            n += 1;
-        }
-        Node(0)
     }
 
     // The first node from c on, once round.
@@ -166,43 +187,50 @@ impl Mask {
         Found::At(Node(u64::trailing_zeros(self.0) as u8))
     }
 
-    // The node after one of rank r mod the size, once round: that of the next rank.
-    fn after(self, node: Node) -> Node
-        requires { ⌜ (0 < self .0) × (node .0 < maskBits) ⌝ }
-        ensures { λ n. ⌜ ((r : ℕ) → node .0 ≡ select maskBits (self .0) (r % size maskBits (self .0)) → n .0 ≡ select maskBits (self .0) ((r + 1) % size maskBits (self .0))) ⌝ }
+    // The mask without its lowest node.
+    pub fn rest(self) -> Mask
+        requires { ⌜ 0 < self .0 ⌝ }
+        ensures { λ r. ⌜ r .0 ≡ self .0 - 2 ^ lowest maskBits (self .0) ⌝ }
     {
-        let above = (self.0 >> node.0) >> 1;
-        if above != 0 {
-            return Node(node.0 + 1 + (u64::trailing_zeros(above) as u8));
-        }
-        self.lowest()
+        Mask(self.0 & (self.0 - 1))
     }
 
-    // The user's bits folded into the allowed nodes: bit by bit, round the allowed nodes.
-    pub fn folded(self, allowed: Mask) -> Mask
-        requires { ⌜ 0 < allowed .0 ⌝ }
-        ensures { λ r. ⌜ r .0 ≡ folded maskBits (self .0) (allowed .0) ⌝ }
+    // The ranks of the mask's nodes in a set.
+    pub fn ranks_in(self, set: Mask) -> Ranks
+        ensures { λ r. ⌜ r .0 ≡ ranksIn (set .0) (self .0) ⌝ }
     {
-        let mut out = Mask::EMPTY;
-        let mut node = allowed.lowest();
-        let mut b: u8 = 0;
-        while b < 64 {
-            if self.has(Node(b)) {
-                out = out.with(node);
-            }
-            node = allowed.after(node);
-            b += 1;
+        let mut out = Ranks::EMPTY;
+        let mut left = self;
+        while left.0 != 0 {
+            out = out.with(set.rank(left.lowest()));
+            left = left.rest();
         }
         out
     }
 
-    // The node of the new allowed set that a node of the old one becomes.
-    pub fn remapped_to(node: Node, old: Mask, new: Mask) -> Node
-        requires { ⌜ (node .0 < maskBits) × (0 < new .0) ⌝ }
-        ensures { λ r. ⌜ r .0 ≡ remappedTo maskBits (old .0) (new .0) (node .0) ⌝ }
+    // The nodes of the mask whose ranks are among these: node by node, each takes the next bit.
+    pub fn ranked(self, ranks: Ranks) -> Mask
+        ensures { λ r. ⌜ r .0 ≡ rankedIn (self .0) (ranks .0) ⌝ }
     {
-        let rank = old.rank(node);
-        new.select(rank % new.size())
+        let mut out: u64 = 0;
+        let mut left = self;
+        let mut bits = ranks.0;
+        while (left.0 != 0) & (bits != 0) {
+            let node = left.lowest();
+            out = out | ((bits % 2) << node.0);
+            left = left.rest();
+            bits = bits / 2;
+        }
+        Mask(out)
+    }
+
+    // The user's bits, each taken for a rank, folded into the allowed nodes.
+    pub fn folded(self, allowed: Mask) -> Mask
+        requires { ⌜ 0 < allowed .0 ⌝ }
+        ensures { λ r. ⌜ r .0 ≡ folded maskBits (self .0) (allowed .0) ⌝ }
+    {
+        let ranks = Ranks::of(self.0).wrapped(allowed.size());
+        allowed.ranked(ranks)
     }
 
     // The effective nodes, carried from the old allowed set to the new one.
@@ -210,15 +238,7 @@ impl Mask {
         requires { ⌜ 0 < new .0 ⌝ }
         ensures { λ r. ⌜ r .0 ≡ remapped maskBits (self .0) (old .0) (new .0) ⌝ }
     {
-        let mut out = Mask::EMPTY;
-        let mut b: u8 = 0;
-        while b < 64 {
-            if self.has(Node(b)) {
-                let node = Mask::remapped_to(Node(b), old, new);
-                out = out.with(node);
-            }
-            b += 1;
-        }
-        out
+        let ranks = self.ranks_in(old).wrapped(new.size());
+        new.ranked(ranks)
     }
 }

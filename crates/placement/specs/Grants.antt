@@ -7,8 +7,8 @@ use lib.Dec.{eqb}
 use Rattle.rules.specs.Basics.{keep, first, from, sum}
 use Rattle.rules.specs.Machine.{pagesOf}
 use Rattle.rules.specs.SearchOrder.{Try, try}
-use Rattle.pages.specs.declared.Found.{Found}
-use Rattle.pages.specs.declared.Found.the-variants.{At, Full}
+use Rattle.placement.specs.declared.grant.FreePage.{FreePage}
+use Rattle.placement.specs.declared.grant.FreePage.the-variants.{At, Full}
 use Rattle.placement.specs.declared.grant.Grant.{Grant}
 use Rattle.placement.specs.declared.grant.Grant.the-variants.{Taken, Nothing}
 
@@ -16,9 +16,9 @@ use Rattle.placement.specs.declared.grant.Grant.the-variants.{Taken, Not
 unfoldable pub lowestFree : List ℕ → List ℕ → ℕ → Option ℕ
 lowestFree counts ledger n = first (keep (λ p. eqb (getD ledger p 1) 0) (pagesOf counts n))
 
--- the page number that the picker came to
-abbrev pub pageFound : Found → Option ℕ
-pageFound (At p) = some p
+-- the page that a node gives
+abbrev pub pageFound : FreePage → Option ℕ
+pageFound (At p) = some (p .0)
 pageFound Full = none
 
 -- A grant: the node that serves, its page, and what the cursor field becomes.

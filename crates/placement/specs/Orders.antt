@@ -1,11 +1,11 @@
 -- Document 01, "Search order": the steps that an order in two arrays holds, and those of the list modes.
-use Prim.Native.Nat.{ℕ, suc}
+use Prim.Native.Nat.{ℕ, suc, _≤_}
 use mathlib.Core.Bool.{_&&_}
 use mathlib.Core.List.{List, _∷_, map}
 use mathlib.Core.Path.{_≡_}
 use mathlib.Core.Option.{Option, none, some}
 use lib.Dec.{ltb}
-use lib.ListN.{getD}
+use lib.ListN.{length, getD}
 use Rattle.rules.specs.Basics.{keep, from, around}
 use Rattle.rules.specs.Machine.{Machine}
 use Rattle.rules.specs.Masks.{has}
@@ -18,6 +18,13 @@ use Rattle.placement.specs.Grants.{stepsOf}
 -- the steps of an order
 abbrev pub stepsIn : Order → List Try
 stepsIn o = stepsOf (o .nodes) (o .cursors) 0 (o .len)
+
+-- two arrays of 64 hold these steps, at most `most` of them
+pub record Put (nodes cursors : List ℕ) (len most : ℕ) (steps : List Try) : Type 0 where
+  pub nodes-64 : length nodes ≡ 64
+  pub cursors-64 : length cursors ≡ 64
+  pub short : len ≤ most
+  pub held : stepsOf nodes cursors 0 len ≡ steps
 
 -- "A place whose byte is N or more, or not allowed, is passed over": of n nodes
 unfoldable pub triedIn : ℕ → ℕ → List Try → List Try

@@ -10,7 +10,8 @@ ghost use Rattle.rules.specs.Machine.{Machine, nodeCount};
 ghost use Rattle.rules.specs.Masks.{maskBits, has, isNone, both, lowest};
 ghost use Rattle.rules.specs.Records.{wellFormed};
 ghost use Rattle.rules.specs.SearchOrder.{near, Try, try, order};
-ghost use Rattle.placement.specs.Orders.{stepsIn, triedIn, listSteps, ringSteps, targetSteps, Starts};
+ghost use Rattle.placement.specs.Grants.{stepsOf};
+ghost use Rattle.placement.specs.Orders.{stepsIn, Put, triedIn, listSteps, ringSteps, targetSteps, Starts};
 ghost use Rattle.records.specs.Jobs.{jobOf};
 use super::grant::Order;
 use machine;
@@ -37,22 +38,51 @@ fn cursor_at(place: Place) -> u8
     place.0 + 1
 }
 
-// One step more, where its node is one of the machine's and allowed.
+// One step more, where its node is one of the machine's and allowed; put in place. Answers how many there are now.
+fn put(
+    steps: &mut [u8; 64],
+    cursors: &mut [u8; 64],
+    len: usize,
+    nodes: usize,
+    limit: Mask,
+    node: Node,
+    cursor: u8,
+) -> usize
+    requires { ⌜ (length (now steps) ≡ 64) × (length (now cursors) ≡ 64) × (len < 64) ⌝ }
+    ensures { λ r. ⌜ Put (now (steps .exit)) (now (cursors .exit)) r (len + 1) (stepsOf (now (steps .entry)) (now (cursors .entry)) 0 len ++ triedIn nodes (limit .0) (try cursor (node .0) ∷ [])) ⌝ }
+{
+    if (node.0 as usize) < nodes {
+        if limit.has(node) {
+            steps[len] = node.0;
+            cursors[len] = cursor;
+            return len + 1;
+        }
+    }
+    len
+}
+
+// One step more in an order.
 fn push(order: Order, nodes: usize, limit: Mask, node: Node, cursor: u8) -> Order
     requires { ⌜ order .len < 64 ⌝ }
     ensures short { λ r. ⌜ r .len ≤ order .len + 1 ⌝ }
     ensures steps { λ r. ⌜ stepsIn r ≡ stepsIn order ++ triedIn nodes (limit .0) (try cursor (node .0) ∷ []) ⌝ }
 {
-    let mut next = order;
-    let at = order.len;
-    if (node.0 as usize) < nodes {
-        if limit.has(node) {
-            next.nodes[at] = node.0;
-            next.cursors[at] = cursor;
-            next.len = at + 1;
-        }
+    let mut steps = order.nodes;
+    let mut cursors = order.cursors;
+    let len = put(
+        &mut steps,
+        &mut cursors,
+        order.len,
+        nodes,
+        limit,
+        node,
+        cursor,
+    );
+    Order {
+        nodes: steps,
+        cursors: cursors,
+        len: len,
     }
-    next
 }
 
 // The places in order; the cursor stays.
@@ -61,13 +91,20 @@ fn add_list(order: Order, nodes: usize, limit: Mask, places: [u8; 16], len: u8) 
     ensures short { λ r. ⌜ r .len ≤ 64 ⌝ }
     ensures steps { λ r. ⌜ stepsIn r ≡ stepsIn order ++ triedIn nodes (limit .0) (listSteps places 0 len) ⌝ }
 {
-    let mut out = order;
+    let mut steps = order.nodes;
+    let mut cursors = order.cursors;
+    let mut at = order.len;
     let mut i: u8 = 0;
     while i < len {
-        out = push(out, nodes, limit, node_at(places, Place(i)), 0);
+        let node = node_at(places, Place(i));
+        at = put(&mut steps, &mut cursors, at, nodes, limit, node, 0);
         i += 1;
     }
-    out
+    Order {
+        nodes: steps,
+        cursors: cursors,
+        len: at,
+    }
 }
 
 // The places from one past the cursor, once round; each sets the cursor to itself.
@@ -76,14 +113,29 @@ fn add_ring(order: Order, nodes: usize, limit: Mask, places: [u8; 16], len: u8, 
     ensures short { λ r. ⌜ r .len ≤ 64 ⌝ }
     ensures steps { λ r. ⌜ stepsIn r ≡ stepsIn order ++ triedIn nodes (limit .0) (ringSteps places len cursor len) ⌝ }
 {
-    let mut out = order;
+    let mut steps = order.nodes;
+    let mut cursors = order.cursors;
+    let mut at = order.len;
     let mut i: u8 = 0;
     while i < len {
         let place = Place((cursor + i) % len);
-        out = push(out, nodes, limit, node_at(places, place), cursor_at(place));
+        let node = node_at(places, place);
+        at = put(
+            &mut steps,
+            &mut cursors,
+            at,
+            nodes,
+            limit,
+            node,
+            cursor_at(place),
+        );
         i += 1;
     }
-    out
+    Order {
+        nodes: steps,
+        cursors: cursors,
+        len: at,
+    }
 }
 
 // near(x), every step with the same cursor.

@@ -24,11 +24,11 @@ fn opening_buffer() -> [u8; 358]
     [0; 358]
 }
 
-// Room for 129 answers, in zeros: a part has 128 records.
-fn answer_buffer() -> [u8; 1548]
-    ensures { λ r. ⌜ 1548 ≡ length r ⌝ }
+// Room for 2,049 answers, in zeros: a part has 2,048 records.
+fn answer_buffer() -> [u8; 24588]
+    ensures { λ r. ⌜ 24588 ≡ length r ⌝ }
 {
-    [0; 1548]
+    [0; 24588]
 }
 
 // Reads the machine record: its six head bytes, and as many more as these say.
@@ -55,7 +55,7 @@ fn answer_part(
 ) -> bool
     requires { ⌜ requestTablesOk (machineOf (now counts) (now cpus) (now distances)) (tablesOf (now pages) (now jobs)) ≡ true ⌝ }
 {
-    let mut input = io::buffer();
+    let mut input = io::large_buffer();
     let mut output = answer_buffer();
     let n = io::read_full(STDIN_FILENO, &mut input);
     let ran = run::run_calls(
@@ -69,7 +69,7 @@ fn answer_part(
     );
     let written = ran.written;
     let told = io::write_all(STDOUT_FILENO, &output[..written]);
-    told & ran.more & (n == 4096)
+    told & ran.more & (n == 65536)
 }
 
 // All parts. A proved loop has to end, and nothing says that the input does: it counts down from a number that no run uses up.

@@ -13,6 +13,7 @@ use super::job::Flag;
 use super::job::Job;
 use super::job::Mode;
 use nodemask::Mask;
+use rules::Place;
 
 // The fields of six words; `rest` is what word 0 holds above the cursor.
 pub struct Fields {
@@ -49,15 +50,15 @@ impl Carries {
     }
 }
 
-// The places from len on are zero.
-fn zero_from(places: [u8; 16], len: usize) -> bool
-    ensures { λ r. ⌜ r ≡ all (eqb 0) (drop len places) ⌝ }
+// The places from one on are zero.
+fn zero_from(places: [u8; 16], from: Place) -> bool
+    ensures { λ r. ⌜ r ≡ all (eqb 0) (drop (from .0) places) ⌝ }
 {
     let mut zero = true;
-    let mut i = len;
-    while i < 16 {
-        zero = zero & (0 == places[i]);
-        i += 1;
+    let mut place = from;
+    while place.0 < 16 {
+        zero = zero & (0 == places[place.0 as usize]);
+        place = Place(place.0 + 1);
     }
     zero
 }
@@ -68,7 +69,7 @@ impl Fields {
         ensures { λ r. ⌜ r ≡ unusedZero (recordOf self) ⌝ }
     {
         let places = self.places;
-        (self.rest == 0) & zero_from(places, self.len as usize)
+        (self.rest == 0) & zero_from(places, Place(self.len))
     }
 
     // "the allowed mask lies below N and is non-empty unless the mode is 0"

@@ -10,6 +10,7 @@ use super::fields::Fields;
 use super::job::Job;
 use super::words;
 use nodemask::Mask;
+use rules::Place;
 
 // N and the length of the job table are in order.
 pub fn tables_ok(nodes: usize, words: usize) -> bool
@@ -55,8 +56,8 @@ pub fn store(jobs: &mut [u64], job: usize, next: Job)
     jobs[at + 1] = user.0;
     jobs[at + 2] = allowed.0;
     jobs[at + 3] = effective.0;
-    jobs[at + 4] = words::pack(places, 0);
-    jobs[at + 5] = words::pack(places, 8);
+    jobs[at + 4] = words::pack(places, Place(0));
+    jobs[at + 5] = words::pack(places, Place(8));
 }
 
 // Another cursor for a job: one word is written.

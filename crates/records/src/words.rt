@@ -5,6 +5,7 @@ ghost use mathlib.Core.List.{_++_};
 ghost use Prim.Native.Nat.{_+_, _*_, _/_, _%_, _^_, _<_, _≤_};
 ghost use lib.ListN.{length, take, drop, replicate};
 ghost use Rattle.rules.specs.Records.{placesPerJob, bytesOf, fromBytes};
+use rules::Place;
 
 // Byte k of a word, lowest first.
 pub fn byte(word: u64, k: usize) -> u8
@@ -42,16 +43,17 @@ pub fn unpack(low: u64, high: u64) -> [u8; 16]
     out
 }
 
-// Eight of the places as a word.
-pub fn pack(places: [u8; 16], from: usize) -> u64
-    requires { ⌜ from ≤ 8 ⌝ }
-    ensures { λ r. ⌜ r ≡ fromBytes (take 8 (drop from places)) ⌝ }
+// Eight of the places, from one on, as a word.
+pub fn pack(places: [u8; 16], from: Place) -> u64
+    requires { ⌜ from .0 ≤ 8 ⌝ }
+    ensures { λ r. ⌜ r ≡ fromBytes (take 8 (drop (from .0) places)) ⌝ }
 {
+    let start = from.0 as usize;
     let mut word: u64 = 0;
     let mut i: usize = 8;
     while 0 < i {
         i -= 1;
-        word = (word << 8) | (places[from + i] as u64);
+        word = (word << 8) | (places[start + i] as u64);
     }
     word
 }
@@ -62,10 +64,11 @@ pub fn padded(places: &[u8]) -> [u8; 16]
     ensures { λ r. ⌜ r ≡ take placesPerJob (now (places .entry) ++ replicate placesPerJob 0) ⌝ }
 {
     let mut out = [0u8; 16];
-    let mut i: usize = 0;
-    while i < places.len() {
-        out[i] = places[i];
-        i += 1;
+    let mut place = Place(0);
+    while (place.0 as usize) < places.len() {
+        let at = place.0 as usize;
+        out[at] = places[at];
+        place = Place(place.0 + 1);
     }
     out
 }

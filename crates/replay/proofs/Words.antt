@@ -7,7 +7,7 @@ use mathlib.Core.List.{List, [], _∷_, _++_, map}
 use native.Mathlib.Nat.{zero-add, sub-zero, add-sub-cancel-left}
 use native.Mathlib.Numerals.{add-one}
 use native.Mathlib.Omega.{arith}
-use borrow.Author.Tests.{ltb-true, ltb-false}
+use borrow.Author.Tests.{ltb-true, ltb-false, eq-eqb, ne-eqb}
 use lib.Dec.{ltb, eqb}
 use lib.ListN.{length, getD, set, take, drop, length-append, length-drop, List·getD-append, length-map}
 use lib.Seq.{take-all, length-take-le, take-suc, take-suc-set, getD-append-add, getD-drop}
@@ -114,11 +114,16 @@ call-ok words i h l =
 abbrev pub Tested : List ℕ → ℕ → Bool → Type 0
 Tested words i ok = (ok && all (λ k. callOk (wordsOf words k)) (from i (callCount words - i))) ≡ callsOk words
 
--- no call is tested, only the length
-pub none-tested : (words : List ℕ) → Tested words 0 (eqb (length words % callWords) 0)
+-- a call that is cut short
+pub cut-short : (words : List ℕ) → (length words % callWords ≡ 0 → ⊥) → callsOk words ≡ false
 unfolding callsOk
-none-tested words =
-    ap (λ (k : ℕ). eqb (length words % callWords) 0 && all (λ k. callOk (wordsOf words k)) (from 0 k)) (sub-zero (callCount words))
+cut-short words h = rw (ne-eqb (length words % callWords) 0 h)
+
+-- no call is tested, only the length
+pub none-tested : (words : List ℕ) → length words % callWords ≡ 0 → Tested words 0 true
+unfolding callsOk
+none-tested words h =
+    rw (eq-eqb (length words % callWords) 0 h, sub-zero (callCount words))
 
 -- one call more is tested
 pub one-tested : (words : List ℕ) (i : ℕ) (ok one : Bool) → i < callCount words → one ≡ callOk (wordsOf words i) → Tested words i ok

@@ -6,6 +6,7 @@ ghost use lib.ListN.{length};
 ghost use Rattle.rules.specs.Replies.{answerOf};
 ghost use Rattle.replay.specs.Encoding.{callWords, placesIn, callOk, callsOk, answerWord};
 use records::words;
+use rules::Place;
 use rules::Reply;
 
 // The words of a call, and the places that it has room for.
@@ -31,7 +32,10 @@ fn call_ok(call: &[u64]) -> bool
 pub fn calls_ok(calls: &[u64]) -> bool
     ensures { λ r. ⌜ r ≡ callsOk (now (calls .entry)) ⌝ }
 {
-    let mut ok = calls.len() % CALL_WORDS == 0;
+    if calls.len() % CALL_WORDS != 0 {
+        return false;
+    }
+    let mut ok = true;
     let mut i = 0;
     while i < calls.len() / CALL_WORDS {
         let start = CALL_WORDS * i;
@@ -48,10 +52,11 @@ pub fn places_in(call: &[u64]) -> [u8; CALL_PLACES]
     ensures { λ r. ⌜ r ≡ placesIn (now (call .entry)) ⌝ }
 {
     let mut places = [0u8; CALL_PLACES];
-    let mut i: usize = 0;
-    while i < CALL_PLACES {
-        places[i] = words::byte(call[8 + i / 8], i % 8);
-        i += 1;
+    let mut place = Place(0);
+    while (place.0 as usize) < CALL_PLACES {
+        let at = place.0 as usize;
+        places[at] = words::byte(call[8 + at / 8], at % 8);
+        place = Place(place.0 + 1);
     }
     places
 }

@@ -8,14 +8,14 @@ use mathlib.Core.Option.{Option, none, some}
 use mathlib.Core.List.{List, [], _∷_, _++_}
 use native.Mathlib.Omega.{arith}
 use borrow.Author.Tests.{eqb-true, eqb-false}
-use lib.ListN.{length, getD, set, replicate}
+use lib.ListN.{length, getD, drop, set, replicate}
 use lib.Seq.{getD-set-same, getD-set-other}
-use Rattle.rules.specs.Basics.{keep}
+use Rattle.rules.specs.Basics.{keep, sum}
 use Rattle.rules.specs.Machine.{Machine}
 use Rattle.rules.specs.Calls.{Answer, granted, released, done, refused, Tables}
 use Rattle.rules.specs.Book.{Call, jobOf, step, answers, final, ledgerAfter}
 use Rattle.rules.specs.Ledger.{Step, steps, isAbout, lastElse, lastStep, givenBy, givenTo}
-use Rattle.rules.proofs.Calls.{ledger-by-answer, ledger-length, records-length, granted-in-table, released-in-table}
+use Rattle.rules.proofs.Calls.{ledger-by-answer, ledger-length, records-length, granted-in-table, released-in-table, past-pages-kept}
 
 -- ---- a list of calls in two parts
 
@@ -42,6 +42,13 @@ pub final-records-length : (m : Machine) (t : Tables) (cs : List Call) → lengt
 unfolding final
 final-records-length m t [] = refl
 final-records-length m t (c ∷ cs) = final-records-length m (step m t c .tables) cs ∙ records-length m t c
+
+-- "Bytes past the last page are never changed": by any list of calls, on any tables
+pub past-pages-kept-all : (m : Machine) (t : Tables) (cs : List Call)
+    → drop (sum (m .pageCounts)) (final m t cs .ledger) ≡ drop (sum (m .pageCounts)) (t .ledger)
+unfolding final
+past-pages-kept-all m t [] = refl
+past-pages-kept-all m t (c ∷ cs) = past-pages-kept-all m (step m t c .tables) cs ∙ past-pages-kept m t c
 
 -- ---- whose page a page is
 

@@ -2,14 +2,14 @@
 -- Assumes nothing.
 use Prim.Native.Nat.{ℕ, zero, suc, _+_, _≤_, _<_}
 use mathlib.Core.Path.{_≡_, refl, sym, ap, subst, _∙_}
-use mathlib.Core.Logic.{_↔_, _≢_, ⊎-elim}
+use mathlib.Core.Logic.{_↔_, _≢_}
 use mathlib.Core.Bool.{Bool, true, false, not}
 use mathlib.Core.Option.{Option, none, some}
-use mathlib.Core.List.{List, [], _∷_, List·Memᴰ·not-nil, List·Memᴰ·cases-cons, List·Memᴰ·append-cases}
+use mathlib.Core.List.{List, [], _∷_, List·Memᴰ·not-nil}
 use native.Mathlib.Omega.{arith}
-use borrow.Author.Tests.{eqb-true, eqb-false, ltb-true, not-true}
-use lib.ListN.{length, getD, length-set}
-use lib.Seq.{length-sets}
+use borrow.Author.Tests.{eqb-true, eqb-false, eq-eqb, ltb-true, not-true}
+use lib.ListN.{length, getD, drop, length-set}
+use lib.Seq.{length-sets, drop-set-lt}
 use lib.Dec.{eqb, ltb}
 use Rattle.rules.specs.Basics.{any, keep, sum}
 use Rattle.rules.specs.Machine.{Machine, nodeCount, pagesOf, nodeOfPage, nodeOfCpu}
@@ -19,7 +19,7 @@ use Rattle.rules.specs.SearchOrder.{Try, near, unmoved, tried, target, i
 use Rattle.rules.specs.Calls.{Answer, granted, released, done, refused, Tables, Decision, refuse, accept, unless, isJob, isCpu, requestTablesOk, releaseTablesOk, limitOf, orderOf, serve, holds, requestDecision, installDecision, rebindDecision, releaseDecision, clearDecision, granting, releasing, storing, onRequest, onRelease, onInstall, onRebind, onClear}
 use Rattle.rules.specs.Book.{Call, request, release, install, rebind, clear, jobOf, withLedger, step, ledgerAfter}
 use Rattle.rules.proofs.Lists.{_∈_, both-true, fails, keep-member, map-member, any-false, none-any, empty-keep, FirstOf, first-keep, first-member, first-none, first-some}
-use Rattle.rules.proofs.Sorted.{Sorted, sorted-after, sorted-from}
+use Rattle.rules.proofs.Sorted.{first-least}
 use Rattle.rules.proofs.Near.{near-allowed}
 use Rattle.rules.proofs.Pages.{PageOf, member-page, page-member, page-lt, page-node, page-node-lt}
 
@@ -191,17 +191,10 @@ module _ (m : Machine) (ledger : List ℕ) (n : ℕ) where
 
   first-lowest : (p : ℕ) → FirstOf (isFree ledger) (pagesOf (m .pageCounts) n) p → LowestFree m ledger n p
   unfolding pagesOf
-  first-lowest p f = record { page = record { ofNode = member-page (m .pageCounts) n (first-member f); free = eqb-true _ 0 (f .passes) }; lowest = λ q g. lowest q g }
-    where
-      lowest : (q : ℕ) → FreePage m ledger n q → p ≤ q
-      lowest q g =
-          ⊎-elim
-          (λ k. absurd (eqb-false _ 0 (f .failed q k) (g .free)))
-          (λ k. ⊎-elim
-          (λ e. omega arith)
-          (λ l. let r : p < q = sorted-after (f .before) (subst (Sorted (λ x y. x < y)) (f .split) (sorted-from _ _)) l in omega arith)
-          (List·Memᴰ·cases-cons k))
-          (List·Memᴰ·append-cases (f .before) (subst (λ (l : List ℕ). q ∈ l) (f .split) (page-member (g .ofNode))))
+  first-lowest p f = record {
+    page = record { ofNode = member-page (m .pageCounts) n (first-member f); free = eqb-true _ 0 (f .passes) };
+    lowest = λ q g. first-least _ _ f q (page-member (g .ofNode)) (eq-eqb _ 0 (g .free));
+  }
 
   -- a node with room gives its lowest free page
   pub picked-lowest : (j : ℕ) → hasRoom m ledger n ≡ true → LowestFree m ledger n (pickPage m ledger j n)
@@ -226,6 +219,15 @@ four-pass true true true false o e = absurd (let z : _≡_ {A = ℕ} 0 1 = cc in
 four-pass true true false d o e = absurd (let z : _≡_ {A = ℕ} 0 1 = cc in omega arith)
 four-pass true false c d o e = absurd (let z : _≡_ {A = ℕ} 0 1 = cc in omega arith)
 four-pass false b c d o e = absurd (let z : _≡_ {A = ℕ} 0 1 = cc in omega arith)
+
+-- refusal 8 stands behind the tests of 1 to 4
+eight-last : (a b c d : Bool) (o : Option Try) → unless a 1 (unless b 2 (unless c 3 (unless d 4 (serve o)))) ≡ refuse 8
+    → (a ≡ true) × (b ≡ true) × (c ≡ true) × (d ≡ true)
+eight-last true true true true o e = (refl, refl, refl, refl)
+eight-last true true true false o e = absurd (let z : _≡_ {A = ℕ} 4 8 = cc in omega arith)
+eight-last true true false d o e = absurd (let z : _≡_ {A = ℕ} 3 8 = cc in omega arith)
+eight-last true false c d o e = absurd (let z : _≡_ {A = ℕ} 2 8 = cc in omega arith)
+eight-last false b c d o e = absurd (let z : _≡_ {A = ℕ} 1 8 = cc in omega arith)
 
 -- a request that is accepted passes 1 to 4, and is served at the first step of its order with room
 pub accepted : (m : Machine) (t : Tables) (j k : ℕ) {s : Try} → requestDecision m t j k ≡ accept s → Passes m t j k × (chosen m (t .ledger) (orderOf m t j k) ≡ some s)
@@ -329,6 +331,27 @@ module _ (m : Machine) (t : Tables) (j k : ℕ) (p : Passes m t j k) where
           given : chosen m (t .ledger) (orderOf m t j k) ≡ some x → step m t (request j k) .answer ≡ granted (x .node) (pickPage m (t .ledger) j (x .node))
           given e = unfold step in unfold onRequest in unfold granting in unfold serve in rw (passed m t j k p, e)
 
+-- a request is refused only by its tests
+refused-by-decision : (m : Machine) (t : Tables) (j : ℕ) (d : Decision Try) {r : ℕ} → granting m t j d .answer ≡ refused r → d ≡ refuse r
+unfolding granting
+refused-by-decision m t j (refuse q) e = cc
+refused-by-decision m t j (accept s) e = absurd (let z : _≡_ {A = ℕ} 0 1 = cc in omega arith)
+
+-- "Order: request 1, 2, 3, 4, 8": a request that is refused 8 passes 1 to 4
+refused-8-passes : (m : Machine) (t : Tables) (j k : ℕ) → step m t (request j k) .answer ≡ refused 8 → Passes m t j k
+unfolding step onRequest requestDecision
+refused-8-passes m t j k e =
+    let d = refused-by-decision m t j (requestDecision m t j k) e in
+    let r = eight-last (requestTablesOk m t) (isJob (t .records) j) (isCpu m k) (wellFormed (nodeCount m) (jobAt (t .records) j)) _ d in
+    record { tablesOk = r .0; job = r .1; cpu = r .2; formed = r .3 }
+
+-- "8 no node in the order has a free page", "Given exactly when", "Order: request 1, 2, 3, 4, 8": a request is refused 8 exactly when it
+-- passes 1 to 4 and no node in its order has a free page
+pub refused-8 : (m : Machine) (t : Tables) (j k : ℕ) → (step m t (request j k) .answer ≡ refused 8)
+    ↔ (Passes m t j k × ((s : Try) → s ∈ orderOf m t j k → (q : ℕ) → FreePage m (t .ledger) (s .node) q → ⊥))
+refused-8 m t j k =
+    (λ e. let p = refused-8-passes m t j k e in (p, room m t j k p .0 e), λ h. room m t j k (h .0) .1 (h .1))
+
 -- ---- release
 
 three-pass : (a b c : Bool) (n : ℕ) {x : ℕ} → unless a 1 (unless b 2 (unless c 10 (accept n))) ≡ accept x → (c ≡ true) × (n ≡ x)
@@ -408,16 +431,39 @@ in-table [] p d v e n = absurd (n (sym e))
 in-table (x ∷ xs) zero d v e n = omega arith
 in-table (x ∷ xs) (suc p) d v e n = omega (arith, in-table xs p d v e n)
 
+-- a grant, whatever the call, says what the grant of a request says
+granted-by : (m : Machine) (t : Tables) (c : Call) {n p : ℕ} → step m t c .answer ≡ granted n p → (k : ℕ) × Granted m t (jobOf c) k n p
+granted-by m t c e =
+    let r = granted-by-request m t c e in
+    (r .0, granted-is m t (jobOf c) (r .0) (ap (λ (c : Call). step m t c .answer) (sym (r .1)) ∙ e))
+
+-- and a released page what a release says
+released-by : (m : Machine) (t : Tables) (c : Call) {n p : ℕ} → step m t c .answer ≡ released n p → (q : ℕ) × Released m t (jobOf c) q n p
+released-by m t c e =
+    let r = released-by-release m t c e in
+    (r .0, released-is m t (jobOf c) (r .0) (ap (λ (c : Call). step m t c .answer) (sym (r .1)) ∙ e))
+
 -- a page that is granted is in the table
 pub granted-in-table : (m : Machine) (t : Tables) (c : Call) {n p : ℕ} → step m t c .answer ≡ granted n p → p < length (t .ledger)
-granted-in-table m t c {n} {p} e =
-    let r = granted-by-request m t c e in
-    let g = granted-is m t (jobOf c) (r .0) (ap (λ (c : Call). step m t c .answer) (sym (r .1)) ∙ e) in
-    in-table (t .ledger) p 1 0 (granted-was-free g) (λ z. omega arith)
+granted-in-table m t c {n} {p} e = in-table (t .ledger) p 1 0 (granted-was-free (granted-by m t c e .1)) (λ z. omega arith)
 
 -- a page that is released is in the table
 pub released-in-table : (m : Machine) (t : Tables) (c : Call) {n p : ℕ} → step m t c .answer ≡ released n p → p < length (t .ledger)
-released-in-table m t c {n} {p} e =
-    let r = released-by-release m t c e in
-    let g = released-is m t (jobOf c) (r .0) (ap (λ (c : Call). step m t c .answer) (sym (r .1)) ∙ e) in
-    in-table (t .ledger) p 0 (jobOf c + 1) (g .held) (λ z. omega arith)
+released-in-table m t c {n} {p} e = in-table (t .ledger) p 0 (jobOf c + 1) (released-by m t c e .1 .held) (λ z. omega arith)
+
+-- ---- past the last page
+
+-- "Bytes past the last page are never changed": by any call, on any tables
+pub past-pages-kept : (m : Machine) (t : Tables) (c : Call)
+    → drop (sum (m .pageCounts)) (step m t c .tables .ledger) ≡ drop (sum (m .pageCounts)) (t .ledger)
+unfolding ledgerAfter
+past-pages-kept m t c = ap (drop pages) (ledger-by-answer m t c) ∙ go (step m t c .answer) refl
+  where
+    pages : ℕ
+    pages = sum (m .pageCounts)
+
+    go : (a : Answer) → step m t c .answer ≡ a → drop pages (ledgerAfter (jobOf c) (t .ledger) a) ≡ drop pages (t .ledger)
+    go (granted n p) e = drop-set-lt pages (t .ledger) p (jobOf c + 1) (granted-page-lt (granted-by m t c e .1))
+    go (released n p) e = drop-set-lt pages (t .ledger) p 0 (released-by m t c e .1 .inRange)
+    go done e = refl
+    go (refused r) e = refl

@@ -1,3 +1,4 @@
+pub mod AllRight
 pub mod Lists
 pub mod Sorted
 pub mod Masks
@@ -5,6 +6,7 @@ pub mod Turns
 pub mod Bytes
 pub mod Records
 pub mod WellFormed
+pub mod Target
 pub mod Kept
 pub mod Machine
 pub mod Near

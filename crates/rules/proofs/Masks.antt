@@ -72,10 +72,6 @@ bit-and a b n = ap (λ (x : ℕ). x % 2) (and-shr a b n) ∙ and-digit (a / 2 ^ 
 pub bit-or : (a b n : ℕ) → bit (bitOr a b) n ≡ max (bit a n) (bit b n)
 bit-or a b n = ap (λ (x : ℕ). x % 2) (or-shr a b n) ∙ or-digit (a / 2 ^ n) (b / 2 ^ n)
 
--- `m >> n & 1` is bit n
-pub shifted-one : (m n : ℕ) → bitAnd (m / 2 ^ n) 1 ≡ bit m n
-shifted-one m n = and-mask (m / 2 ^ n) 1
-
 -- `m & (1 << n)` is bit n, in its place
 pub and-one : (m n : ℕ) → bitAnd m (2 ^ n) ≡ bit m n * 2 ^ n
 and-one m n = ap (bitAnd m) (sym e) ∙ and-high m 1 n

@@ -70,7 +70,7 @@ impl Both {
     }
 
     /// Makes the call by both: same answer, same tables; a refusal changes nothing, and no call a byte past the last page.
-    pub fn call(&mut self, call: &Call, seen: &mut Seen) -> Result<(), String> {
+    pub fn call(&mut self, call: &Call, seen: &mut Seen) -> Result<Answer, String> {
         let before = self.tables.clone();
         let expected = apply_with(self.nodes, &mut self.tables, call);
         let found = library_call(self.nodes, &mut self.lent, call);
@@ -89,7 +89,7 @@ impl Both {
             return Err(format!("{}: {found:?} changed a byte past the last page", told()));
         }
         seen.enter(found);
-        Ok(())
+        Ok(found)
     }
 }
 

@@ -1,26 +1,7 @@
 //! Whole journals by the linked library and by the second implementation.
 
-use hosts::{seeds, Lent};
+use hosts::{journal_by_both, seeds};
 use reference::generate::{damaged, journal};
-
-/// Runs by both, with room for so many answers, and compares; gives the length of the answers.
-fn run(told: &str, input: &[u8], room: usize) -> Result<usize, u8> {
-    let lent = Lent::new(input, 0x4E);
-    let mut output = Lent::new(&vec![0xA5; 12 * room], 0x5A);
-    let found = spirerivet::journal(lent.now(), output.now_mut()).map_err(|refusal| refusal.number());
-    let mut left = vec![0xA5; 12 * room];
-    let expected = if room > input.len() / 32 {
-        let answers = reference::journal::run(input);
-        left[..answers.len()].copy_from_slice(&answers);
-        Ok(answers.len())
-    } else {
-        Err(11)
-    };
-    assert_eq!(found, expected, "{told}");
-    assert!(lent.is(input), "{told}: the journal was changed");
-    assert!(output.is(&left), "{told}: the output differs");
-    found
-}
 
 #[test]
 fn whole_journals_are_answered_alike() {
@@ -30,10 +11,10 @@ fn whole_journals_are_answered_alike() {
             let told = format!("{sort} journal, seed {seed}");
             let least = input.len() / 32 + 1;
             for room in [least, least + 3] {
-                answers += run(&told, &input, room).expect("there is room") / 12;
+                answers += journal_by_both(&told, &input, room).expect("there is room").len() / 12;
             }
             for room in [0, least - 1] {
-                assert_eq!(run(&told, &input, room), Err(11), "{told}");
+                assert_eq!(journal_by_both(&told, &input, room), Err(11), "{told}");
             }
         }
     }
@@ -45,6 +26,6 @@ fn whole_journals_are_answered_alike() {
 fn a_journal_cut_at_any_byte() {
     let whole = journal(3, 4);
     for length in 0..whole.len() {
-        run(&format!("cut at {length}"), &whole[..length], length / 32 + 1).expect("there is room");
+        journal_by_both(&format!("cut at {length}"), &whole[..length], length / 32 + 1).expect("there is room");
     }
 }

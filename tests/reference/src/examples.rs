@@ -1,277 +1,482 @@
-//! Every example of "Shown by example" and every trap of "Easy ways to get it wrong".
+//! Document 01's examples and easy mistakes as one table: calls, and what 01 prints for them; and a few readings of its rules.
+//!
+//! This crate runs the table on the second implementation; `hosts` runs it on the linked library and the program too.
 
-use crate::calls::{apply, apply_with, Answer, Call, Tables};
-use crate::journal::run;
-use crate::record::{read, WORDS};
+use crate::calls::{apply, Answer, Call, Tables};
+use crate::journal::{answer_bytes, call_bytes, machine_bytes, MOST_NODES};
+use crate::record::{BIND, DEFAULT, EARLY, INTERLEAVE, LIST, NO_FLAG, PREFERRED, RELATIVE, RING, STATIC, WORDS};
 
-/// Machine A with eight jobs, job 0 allowed all nodes (Shown by example).
-pub fn machine_a() -> Tables {
-    let mut tables = Tables {
-        counts: vec![2, 2, 0, 2],
-        cpus: vec![0, 0, 1, 1, 2, 2, 3, 3],
-        distances: vec![10, 20, 20, 30, 20, 10, 30, 20, 20, 30, 10, 20, 30, 20, 20, 10],
-        pages: vec![0; 6],
-        jobs: vec![0; 8 * WORDS],
-    };
-    assert_eq!(apply(&mut tables, &Call::Rebind { job: 0, allowed: 0b1111 }), Answer::Done);
-    tables
+/// One step of an example; the record is job 0's.
+#[derive(Clone, Debug, PartialEq, Eq)]
+pub enum Step {
+    /// A call and its answer.
+    Call(Call, Answer),
+    /// The cursor field.
+    Cursor(u64),
+    /// The effective mask, and its text.
+    Effective(u64, &'static str),
+    /// The whole record.
+    Record([u64; WORDS]),
 }
 
-/// Machine A with a policy freshly installed for job 0.
-fn with_policy(mode: u64, mask: u64, places: &[u8]) -> Tables {
-    let mut tables = machine_a();
-    let call = Call::Install { job: 0, mode, flag: 0, mask, places: places.to_vec() };
-    assert_eq!(apply(&mut tables, &call), Answer::Done);
-    tables
+/// Steps on a machine with free pages and fresh jobs.
+#[derive(Clone, Debug, PartialEq, Eq)]
+pub struct Example {
+    pub name: String,
+    pub start: Tables,
+    pub steps: Vec<Step>,
 }
 
-/// The page granted to job 0, or the refusal as an error.
-fn page(tables: &mut Tables, cpu: usize) -> Result<u32, u8> {
-    match apply(tables, &Call::Request { job: 0, cpu }) {
-        Answer::Granted { page, .. } => Ok(page),
-        Answer::Refused(number) => Err(number),
-        other => panic!("{other:?}"),
+impl Example {
+    fn new(name: &str, start: Tables) -> Example {
+        Example { name: name.to_string(), start, steps: Vec::new() }
+    }
+
+    /// "Job 0, freshly installed, all nodes allowed, all pages free", on machine A.
+    fn on_a(name: &str, mode: u8, mask: u64, places: &[u8]) -> Example {
+        Example::new(name, fresh_a()).rebind(0b1111).install(mode, NO_FLAG, mask, places)
+    }
+
+    fn step(mut self, step: Step) -> Example {
+        self.steps.push(step);
+        self
+    }
+
+    fn call(self, call: Call, answer: Answer) -> Example {
+        self.step(Step::Call(call, answer))
+    }
+
+    /// Job 0 is rebound.
+    fn rebind(self, allowed: u64) -> Example {
+        self.call(Call::Rebind { job: 0, allowed }, Answer::Done)
+    }
+
+    /// Job 0 gets a policy.
+    fn install(self, mode: u8, flag: u8, mask: u64, places: &[u8]) -> Example {
+        self.call(install(mode, flag, mask, places), Answer::Done)
+    }
+
+    /// Requests of job 0 from one CPU, granted from these nodes and pages.
+    fn grants(mut self, cpu: usize, pages: &[(u8, u32)]) -> Example {
+        for (node, page) in pages {
+            self = self.call(Call::Request { job: 0, cpu }, Answer::Granted { node: *node, page: *page });
+        }
+        self
+    }
+
+    /// A request of job 0 that is refused 8.
+    fn no_room(self, cpu: usize) -> Example {
+        self.call(Call::Request { job: 0, cpu }, Answer::Refused(8))
+    }
+
+    /// Job 0 gives a page back.
+    fn release(self, node: u8, page: u32) -> Example {
+        self.call(Call::Release { job: 0, page: page as usize }, Answer::Released { node, page })
+    }
+
+    fn cursor(self, field: u64) -> Example {
+        self.step(Step::Cursor(field))
+    }
+
+    fn effective(self, nodes: &[usize], text: &'static str) -> Example {
+        self.step(Step::Effective(mask(nodes), text))
+    }
+
+    /// Its calls, each with the answer.
+    pub fn calls(&self) -> Vec<(&Call, Answer)> {
+        let mut calls = Vec::new();
+        for step in &self.steps {
+            if let Step::Call(call, answer) = step {
+                calls.push((call, *answer));
+            }
+        }
+        calls
+    }
+
+    /// The example as a journal and its answers, if N fits one.
+    pub fn journal(&self) -> Option<(Vec<u8>, Vec<u8>)> {
+        if self.start.counts.len() > MOST_NODES {
+            return None;
+        }
+        let mut journal = machine_bytes(&self.start);
+        let mut answers = Vec::new();
+        for (call, answer) in self.calls() {
+            let record = call_bytes(call);
+            journal.extend(record);
+            answers.extend(answer_bytes(record[2], answer));
+        }
+        Some((journal, answers))
     }
 }
 
-/// Asserts the pages of requests in a row, all from one CPU.
-fn expect_pages(tables: &mut Tables, cpu: usize, expected: &[Result<u32, u8>]) {
-    for (turn, one) in expected.iter().enumerate() {
-        assert_eq!(page(tables, cpu), *one, "request {turn}");
-    }
-}
-
-/// The cursor field of job 0.
-fn cursor(tables: &Tables) -> u8 {
-    read(&tables.jobs, 0).cursor
-}
-
-#[test]
-fn default_from_cpu_4() {
-    let mut tables = with_policy(0, 0, &[]);
-    let answer = apply(&mut tables, &Call::Request { job: 0, cpu: 4 });
-    assert_eq!(answer, Answer::Granted { node: 0, page: 0 });
-    expect_pages(&mut tables, 4, &[Ok(1), Ok(4), Ok(5), Ok(2), Ok(3), Err(8)]);
-}
-
-#[test]
-fn bind_1_and_3() {
-    let mut tables = with_policy(2, 0b1010, &[]);
-    expect_pages(&mut tables, 0, &[Ok(2), Ok(3), Ok(4), Ok(5), Err(8)]);
-}
-
-#[test]
-fn interleave_1_to_3() {
-    let mut tables = with_policy(3, 0b1110, &[]);
-    expect_pages(&mut tables, 0, &[Ok(2), Ok(0), Ok(4)]);
-}
-
-#[test]
-fn ring_3_3_1() {
-    let mut tables = with_policy(5, 0, &[3, 3, 1]);
-    expect_pages(&mut tables, 0, &[Ok(4), Ok(5), Ok(2), Ok(3), Err(8)]);
-}
-
-#[test]
-fn list_3_3_1() {
-    let mut tables = with_policy(4, 0, &[3, 3, 1]);
-    expect_pages(&mut tables, 0, &[Ok(4), Ok(5), Ok(2), Ok(3), Err(8)]);
-}
-
-#[test]
-fn early_0_1_3() {
-    let mut tables = with_policy(6, 0, &[0, 1, 3]);
-    expect_pages(&mut tables, 0, &[Ok(0), Ok(1)]);
-    assert_eq!(cursor(&tables), 0);
-    expect_pages(&mut tables, 0, &[Ok(2), Ok(4), Ok(3), Ok(5), Err(8)]);
-}
-
-/// N = 10, one job allowed `allowed`, interleave over `user`, rebound in turn; gives the effective mask.
-fn effective(allowed: u64, flag: u64, user: u64, rebinds: &[u64]) -> u64 {
-    let mut tables = machine_a();
-    assert_eq!(apply_with(10, &mut tables, &Call::Rebind { job: 1, allowed }), Answer::Done);
-    let call = Call::Install { job: 1, mode: 3, flag, mask: user, places: vec![] };
-    assert_eq!(apply_with(10, &mut tables, &call), Answer::Done);
-    for new in rebinds {
-        assert_eq!(apply_with(10, &mut tables, &Call::Rebind { job: 1, allowed: *new }), Answer::Done);
-    }
-    read(&tables.jobs, 1).effective
+/// An install for job 0.
+fn install(mode: u8, flag: u8, mask: u64, places: &[u8]) -> Call {
+    Call::Install { job: 0, mode: u64::from(mode), flag: u64::from(flag), mask, places: places.to_vec() }
 }
 
 /// The mask of the nodes named.
 fn mask(nodes: &[usize]) -> u64 {
-    let mut mask = 0;
-    for node in nodes {
-        mask |= 1 << node;
-    }
-    mask
+    nodes.iter().fold(0, |mask, node| mask | 1 << node)
 }
 
-#[test]
-fn mask_examples() {
-    assert_eq!(effective(mask(&[1, 2, 3]), 0, mask(&[1, 2, 3]), &[mask(&[3, 4, 5])]), mask(&[3, 4, 5]));
-    assert_eq!(effective(mask(&[1, 2, 3]), 1, mask(&[1, 2, 3]), &[mask(&[3, 4, 5])]), mask(&[3]));
-    assert_eq!(effective(mask(&[3, 4, 5, 6, 7]), 2, mask(&[2, 3, 4, 5]), &[]), mask(&[3, 5, 6, 7]));
-    assert_eq!(effective(mask(&[0, 2, 3, 5]), 2, mask(&[2, 3, 4, 5]), &[]), mask(&[0, 2, 3, 5]));
-    let one_five = mask(&[1, 2, 3, 4, 5]);
-    let seven_nine = mask(&[7, 8, 9]);
-    assert_eq!(effective(one_five, 0, mask(&[1, 3, 5]), &[seven_nine]), seven_nine);
-    assert_eq!(effective(one_five, 0, mask(&[1, 3, 5]), &[seven_nine, one_five]), mask(&[1, 2, 3]));
+/// A machine with free pages and eight fresh jobs.
+fn machine(counts: &[u32], cpus: &[u8], distances: Vec<u8>) -> Tables {
+    let pages = vec![0; counts.iter().sum::<u32>() as usize];
+    Tables { counts: counts.to_vec(), cpus: cpus.to_vec(), distances, pages, jobs: vec![0; 8 * WORDS] }
 }
 
-#[test]
-fn sixteen_places_and_node_63() {
-    let mut tables = machine_a();
-    let mut install =
-        |places: Vec<u8>| apply(&mut tables, &Call::Install { job: 0, mode: 5, flag: 0, mask: 0, places });
-    assert_eq!(install(vec![0; 16]), Answer::Done);
-    assert_eq!(install(vec![0; 17]), Answer::Refused(6));
-    let node_63 = 1u64 << 63;
-    assert_eq!(apply_with(64, &mut tables, &Call::Rebind { job: 1, allowed: node_63 }), Answer::Done);
-    let call = Call::Install { job: 1, mode: 2, flag: 0, mask: node_63, places: vec![] };
-    assert_eq!(apply_with(64, &mut tables, &call), Answer::Done);
-    assert_eq!(apply_with(63, &mut tables, &Call::Rebind { job: 2, allowed: node_63 }), Answer::Refused(6));
+/// Distances of 10 on the diagonal and another number elsewhere.
+fn flat(nodes: usize, elsewhere: u8) -> Vec<u8> {
+    (0..nodes * nodes).map(|cell| if cell / nodes == cell % nodes { 10 } else { elsewhere }).collect()
 }
 
-#[test]
-fn the_journal_on_a_byte_for_byte() {
-    let mut journal = vec![0x4E, 0x50, 0, 4, 8, 0];
-    journal.extend([2, 0, 2, 0, 0, 0, 2, 0]);
-    journal.extend([0, 0, 1, 1, 2, 2, 3, 3]);
-    journal.extend([10, 20, 20, 30, 20, 10, 30, 20, 20, 30, 10, 20, 30, 20, 20, 10]);
-    let mut rebind = [0; 32];
-    rebind[..4].copy_from_slice(&[0x4E, 0x50, 3, 0]);
-    rebind[8] = 0x0F;
-    let mut request = [0; 32];
-    request[..4].copy_from_slice(&[0x4E, 0x50, 1, 0]);
-    journal.extend(rebind);
-    journal.extend(request);
-    let expected = [
-        0x4E, 0x41, 0x03, 0x00, 0xFF, 0x00, 0x00, 0x00, 0xFF, 0xFF, 0xFF, 0xFF, //
-        0x4E, 0x41, 0x01, 0x00, 0x00, 0x00, 0x00, 0x00, 0x00, 0x00, 0x00, 0x00,
+/// Machine A (Shown by example).
+fn fresh_a() -> Tables {
+    let distances = vec![10, 20, 20, 30, 20, 10, 30, 20, 20, 30, 10, 20, 30, 20, 20, 10];
+    machine(&[2, 2, 0, 2], &[0, 0, 1, 1, 2, 2, 3, 3], distances)
+}
+
+/// Machine A with job 0 allowed all nodes.
+pub fn machine_a() -> Tables {
+    let mut tables = fresh_a();
+    assert_eq!(apply(&mut tables, &Call::Rebind { job: 0, allowed: 0b1111 }), Answer::Done);
+    tables
+}
+
+/// "N = 10 and interleave": two pages to a node, so that as many requests as there are effective nodes, and one more, show them.
+fn on_ten(name: &str, allowed: &[usize], flag: u8, user: &[usize]) -> Example {
+    let ten = machine(&[2; 10], &[0], flat(10, 20));
+    Example::new(name, ten).rebind(mask(allowed)).install(INTERLEAVE, flag, mask(user), &[])
+}
+
+/// Every example of the table.
+pub fn all() -> Vec<Example> {
+    [pages(), masks(), sixteen_places(), node_63(), easy_to_get_wrong(), policies(), places(), reach()].concat()
+}
+
+/// "Shown by example": pages on machine A.
+fn pages() -> Vec<Example> {
+    let one_page_each = Tables { counts: vec![1; 4], pages: vec![0; 4], ..fresh_a() };
+    vec![
+        Example::on_a("default, CPU 4: node 0, page 0", DEFAULT, 0, &[])
+            .grants(4, &[(0, 0), (0, 1), (3, 4), (3, 5), (1, 2), (1, 3)])
+            .no_room(4),
+        Example::new("default, CPU 4: order 2,0,3,1", one_page_each)
+            .rebind(0b1111)
+            .install(DEFAULT, NO_FLAG, 0, &[])
+            .grants(4, &[(2, 2), (0, 0), (3, 3), (1, 1)])
+            .no_room(4),
+        Example::on_a("bind 1,3, CPU 0: pages 2,3,4,5, then 8", BIND, 0b1010, &[])
+            .grants(0, &[(1, 2), (1, 3), (3, 4), (3, 5)])
+            .no_room(0),
+        Example::on_a("interleave 1-3: pages 2,0,4", INTERLEAVE, 0b1110, &[]).grants(0, &[(1, 2), (0, 0), (3, 4)]),
+        Example::on_a("ring {3,3,1}: pages 4,5,2,3, then 8", RING, 0, &[3, 3, 1])
+            .grants(0, &[(3, 4), (3, 5), (1, 2), (1, 3)])
+            .no_room(0),
+        Example::on_a("list {3,3,1}: pages 4,5,2,3, then 8", LIST, 0, &[3, 3, 1])
+            .grants(0, &[(3, 4), (3, 5), (1, 2), (1, 3)])
+            .no_room(0),
+        Example::on_a("early {0,1,3}: pages 0,1,2,4,3,5, then 8", EARLY, 0, &[0, 1, 3])
+            .grants(0, &[(0, 0), (0, 1), (1, 2), (3, 4), (1, 3), (3, 5)])
+            .no_room(0),
+    ]
+}
+
+/// "Shown by example": masks with N = 10.
+fn masks() -> Vec<Example> {
+    vec![
+        on_ten("1-3 in 1-3, rebound to 3-5: 3-5", &[1, 2, 3], NO_FLAG, &[1, 2, 3])
+            .effective(&[1, 2, 3], "1-3")
+            .rebind(mask(&[3, 4, 5]))
+            .effective(&[3, 4, 5], "3-5")
+            .grants(0, &[(3, 6), (4, 8), (5, 10), (3, 7)]),
+        on_ten("static: 3", &[1, 2, 3], STATIC, &[1, 2, 3])
+            .effective(&[1, 2, 3], "1-3")
+            .rebind(mask(&[3, 4, 5]))
+            .effective(&[3], "3")
+            .grants(0, &[(3, 6), (3, 7)]),
+        on_ten("relative 2-5 in 3-7: 3,5-7", &[3, 4, 5, 6, 7], RELATIVE, &[2, 3, 4, 5])
+            .effective(&[3, 5, 6, 7], "3,5-7")
+            .grants(0, &[(3, 6), (5, 10), (6, 12), (7, 14), (3, 7)]),
+        on_ten("relative 2-5 in 0,2-3,5: 0,2-3,5", &[0, 2, 3, 5], RELATIVE, &[2, 3, 4, 5])
+            .effective(&[0, 2, 3, 5], "0,2-3,5")
+            .grants(0, &[(0, 0), (2, 4), (3, 6), (5, 10), (0, 1)]),
+        on_ten("1,3,5 in 1-5, rebound to 7-9: 7-9; back to 1-5: 1-3", &[1, 2, 3, 4, 5], NO_FLAG, &[1, 3, 5])
+            .effective(&[1, 3, 5], "1,3,5")
+            .rebind(mask(&[7, 8, 9]))
+            .effective(&[7, 8, 9], "7-9")
+            .grants(0, &[(7, 14), (8, 16), (9, 18), (7, 15)])
+            .rebind(mask(&[1, 2, 3, 4, 5]))
+            .effective(&[1, 2, 3], "1-3")
+            .grants(0, &[(1, 2), (2, 4), (3, 6), (1, 3)]),
+    ]
+}
+
+/// "16 places accepted, 17 refused 6": only the last of the sixteen has pages.
+fn sixteen_places() -> Vec<Example> {
+    let sixteen = [2, 2, 2, 2, 2, 2, 2, 2, 2, 2, 2, 2, 2, 2, 2, 3];
+    let twos = 0x0202_0202_0202_0202;
+    let of_mode = |mode, cursor| {
+        Example::on_a(&format!("16 places accepted, 17 refused 6: mode {mode}"), mode, 0, &sixteen)
+            .call(install(mode, NO_FLAG, 0, &[3; 17]), Answer::Refused(6))
+            .step(Step::Record([0x10_0000 + u64::from(mode), 0, 0b1111, 0, twos, twos + (1 << 56)]))
+            .grants(0, &[(3, 4), (3, 5)])
+            .cursor(cursor)
+            .no_room(0)
+    };
+    vec![of_mode(LIST, 0), of_mode(RING, 16), of_mode(EARLY, 16)]
+}
+
+/// "node 63 accepted with N 64", and not with N 63; too many nodes for a journal.
+fn node_63() -> Vec<Example> {
+    let sixty_four = || machine(&[1; 64], &[63], flat(64, 20));
+    let node_63 = 1 << 63;
+    vec![
+        Example::new("node 63 with N 64: rebind, CPU", sixty_four()).rebind(node_63).grants(0, &[(63, 63)]).no_room(0),
+        Example::new("node 63 with N 64: bind", sixty_four())
+            .rebind(u64::MAX)
+            .install(BIND, NO_FLAG, node_63, &[])
+            .effective(&[63], "63")
+            .grants(0, &[(63, 63)])
+            .no_room(0),
+        Example::new("node 63 with N 64: interleave", sixty_four())
+            .rebind(u64::MAX)
+            .install(INTERLEAVE, NO_FLAG, 3 << 62, &[])
+            .grants(0, &[(62, 62), (63, 63)])
+            .cursor(64)
+            .grants(0, &[(0, 0)])
+            .cursor(63),
+        Example::new("node 63 with N 64: a place", sixty_four())
+            .rebind(u64::MAX)
+            .install(RING, NO_FLAG, 0, &[63, 0])
+            .step(Step::Record([0x2_0005, 0, u64::MAX, 0, 63, 0]))
+            .grants(0, &[(63, 63), (0, 0)]),
+        Example::new("node 63 with N 63", machine(&[1; 63], &[0], flat(63, 20)))
+            .call(Call::Rebind { job: 0, allowed: node_63 }, Answer::Refused(6))
+            .rebind(node_63 - 1)
+            .call(install(BIND, NO_FLAG, node_63, &[]), Answer::Refused(6)),
+    ]
+}
+
+/// "Easy ways to get it wrong", each point so that the mistake would show in an answer.
+fn easy_to_get_wrong() -> Vec<Example> {
+    let mut examples = vec![
+        Example::on_a("a refused request does not move a ring's cursor", RING, 0, &[3, 1])
+            .grants(0, &[(3, 4), (1, 2), (3, 5), (1, 3)])
+            .no_room(0)
+            .cursor(2)
+            .release(3, 4)
+            .release(1, 2)
+            .grants(0, &[(3, 4), (1, 2)]),
+        Example::on_a("a refused request does not move interleave's cursor", INTERLEAVE, 0b1010, &[])
+            .grants(0, &[(1, 2), (3, 4), (1, 3), (3, 5), (0, 0), (0, 1)])
+            .no_room(0)
+            .cursor(4)
+            .release(1, 2)
+            .release(3, 4)
+            .grants(0, &[(1, 2), (3, 4)]),
+        Example::on_a("interleave stores the target, not the node that served", INTERLEAVE, 0b1110, &[])
+            .grants(0, &[(1, 2), (0, 0)])
+            .cursor(3)
+            .grants(0, &[(3, 4)])
+            .cursor(4)
+            .grants(0, &[(1, 3)])
+            .cursor(2),
+        Example::on_a("a ring starts one past its cursor", RING, 0, &[0, 1])
+            .grants(0, &[(0, 0), (1, 2)])
+            .cursor(2)
+            .grants(0, &[(0, 1), (1, 3)]),
     ];
-    assert_eq!(run(&journal), expected);
-}
-
-#[test]
-fn trap_a_refused_request_does_not_move_the_cursor() {
-    let mut ring = with_policy(5, 0, &[3, 1]);
-    expect_pages(&mut ring, 0, &[Ok(4), Ok(2), Ok(5), Ok(3), Err(8), Err(8)]);
-    assert_eq!(cursor(&ring), 2);
-    for page in [4, 2] {
-        apply(&mut ring, &Call::Release { job: 0, page });
+    let x_first = [(3, 4), (3, 5), (0, 0)];
+    for (mode, user, cpu) in [(DEFAULT, 0, 7), (PREFERRED, 0b1000, 0), (BIND, 0b1001, 7), (INTERLEAVE, 0b1000, 0)] {
+        let all_at_10 = Tables { distances: vec![10; 16], ..fresh_a() };
+        let name = format!("near(x) has x before a lower neighbour at distance 10: mode {mode}");
+        let example =
+            Example::new(&name, all_at_10).rebind(0b1111).install(mode, NO_FLAG, user, &[]).grants(cpu, &x_first);
+        examples.push(example);
     }
-    expect_pages(&mut ring, 0, &[Ok(4), Ok(2)]);
-    let mut interleave = with_policy(3, 0b1010, &[]);
-    expect_pages(&mut interleave, 0, &[Ok(2), Ok(4), Ok(3), Ok(5), Ok(0), Ok(1), Err(8)]);
-    let before = cursor(&interleave);
-    expect_pages(&mut interleave, 0, &[Err(8)]);
-    assert_eq!(cursor(&interleave), before);
+    examples
 }
 
-#[test]
-fn trap_interleave_stores_the_target() {
-    let mut tables = with_policy(3, 0b1110, &[]);
-    expect_pages(&mut tables, 0, &[Ok(2), Ok(0)]);
-    assert_eq!(cursor(&tables), 3);
-    expect_pages(&mut tables, 0, &[Ok(4)]);
-    assert_eq!(cursor(&tables), 4);
-    expect_pages(&mut tables, 0, &[Ok(3)]);
-    assert_eq!(cursor(&tables), 2);
-}
-
-#[test]
-fn trap_a_ring_does_not_start_at_its_cursor() {
-    let mut tables = with_policy(5, 0, &[0, 1]);
-    expect_pages(&mut tables, 0, &[Ok(0), Ok(2), Ok(1), Ok(3)]);
-}
-
-#[test]
-fn trap_x_comes_before_a_lower_neighbour_at_distance_10() {
-    let mut tables = machine_a();
-    tables.distances = vec![10; 16];
-    expect_pages(&mut tables, 7, &[Ok(4), Ok(5), Ok(0)]);
-}
-
-#[test]
-fn early_moves_its_cursor_only_after_place_0() {
-    let mut tables = with_policy(6, 0, &[0, 1, 3]);
-    expect_pages(&mut tables, 0, &[Ok(0), Ok(1), Ok(2)]);
-    assert_eq!(cursor(&tables), 2);
-    apply(&mut tables, &Call::Release { job: 0, page: 1 });
-    expect_pages(&mut tables, 0, &[Ok(1)]);
-    assert_eq!(cursor(&tables), 2);
-    expect_pages(&mut tables, 0, &[Ok(4)]);
-    assert_eq!(cursor(&tables), 3);
-}
-
-#[test]
-fn places_at_n_or_above_or_not_allowed_are_passed_over() {
-    let mut tables = with_policy(5, 0, &[4, 255, 1, 0]);
-    expect_pages(&mut tables, 0, &[Ok(2), Ok(0), Ok(3), Ok(1), Err(8)]);
-    let mut tables = with_policy(4, 0, &[0, 1]);
-    apply(&mut tables, &Call::Rebind { job: 0, allowed: 0b1010 });
-    expect_pages(&mut tables, 0, &[Ok(2), Ok(3), Err(8)]);
-}
-
-#[test]
-fn preferred_local_static_empty_and_lowest() {
-    let mut local = with_policy(1, 0, &[]);
-    expect_pages(&mut local, 7, &[Ok(4)]);
-    expect_pages(&mut local, 0, &[Ok(0)]);
-    let mut lowest = with_policy(1, 0b1010, &[]);
-    expect_pages(&mut lowest, 7, &[Ok(2), Ok(3), Ok(0), Ok(1), Ok(4)]);
-    for mode in [1, 2, 3] {
-        let mut tables = machine_a();
-        let call = Call::Install { job: 0, mode, flag: 1, mask: 0b0010, places: vec![] };
-        assert_eq!(apply(&mut tables, &call), Answer::Done);
-        assert_eq!(apply(&mut tables, &Call::Rebind { job: 0, allowed: 0b1001 }), Answer::Done);
-        assert_eq!(read(&tables.jobs, 0).effective, 0);
-        expect_pages(&mut tables, 6, &[Ok(4), Ok(5), Ok(0), Ok(1), Err(8)]);
-        assert_eq!(cursor(&tables), 0);
+/// What 01 says and shows no example of: preferred, static with an empty effective set, rebind and clear.
+fn policies() -> Vec<Example> {
+    let mut examples = vec![
+        Example::on_a("preferred with an empty mask is local", PREFERRED, 0, &[])
+            .grants(7, &[(3, 4)])
+            .grants(0, &[(0, 0)]),
+        Example::on_a("preferred goes by its lowest node", PREFERRED, 0b1010, &[])
+            .grants(7, &[(1, 2), (1, 3), (0, 0), (0, 1), (3, 4)]),
+        Example::on_a("rebind keeps the cursor", INTERLEAVE, 0b1111, &[])
+            .grants(0, &[(0, 0), (1, 2), (0, 1)])
+            .cursor(3)
+            .rebind(0b1010)
+            .cursor(3)
+            .grants(0, &[(3, 4), (1, 3), (3, 5)]),
+        Example::on_a("clear makes the record fresh; held pages stay held", RING, 0, &[3])
+            .grants(0, &[(3, 4)])
+            .call(Call::Clear { job: 0 }, Answer::Done)
+            .step(Step::Record([0; WORDS]))
+            .no_room(0)
+            .release(3, 4),
+    ];
+    for mode in [PREFERRED, BIND, INTERLEAVE] {
+        let name = format!("static with an empty effective set goes by the CPU's node: mode {mode}");
+        let example = Example::new(&name, fresh_a())
+            .rebind(0b1111)
+            .install(mode, STATIC, 0b0010, &[])
+            .rebind(0b1001)
+            .effective(&[], "")
+            .grants(6, &[(3, 4), (3, 5), (0, 0), (0, 1)])
+            .no_room(6)
+            .cursor(0);
+        examples.push(example);
     }
+    examples
 }
 
-#[test]
-fn bind_does_not_try_an_unreachable_effective_node() {
-    let mut tables = with_policy(2, 0b1010, &[]);
-    tables.distances[1] = 255;
-    expect_pages(&mut tables, 0, &[Ok(4), Ok(5), Err(8)]);
+/// Likewise: places that are passed over, and early's cursor.
+fn places() -> Vec<Example> {
+    vec![
+        Example::on_a("early moves its cursor only after place 0", EARLY, 0, &[0, 1, 3])
+            .grants(0, &[(0, 0), (0, 1)])
+            .cursor(0)
+            .grants(0, &[(1, 2)])
+            .cursor(2)
+            .release(0, 1)
+            .grants(0, &[(0, 1)])
+            .cursor(2)
+            .grants(0, &[(3, 4)])
+            .cursor(3),
+        Example::on_a("places at N or above are passed over", RING, 0, &[4, 255, 1, 0])
+            .grants(0, &[(1, 2), (0, 0), (1, 3), (0, 1)])
+            .no_room(0),
+        Example::on_a("places that are not allowed are passed over", LIST, 0, &[0, 1])
+            .rebind(0b1010)
+            .grants(0, &[(1, 2), (1, 3)])
+            .no_room(0),
+    ]
 }
 
-#[test]
-fn an_unreachable_interleave_target_sticks() {
-    let mut tables = machine_a();
-    tables.counts = vec![1, 1];
-    tables.cpus = vec![0];
-    tables.distances = vec![10, 255, 255, 10];
-    tables.pages = vec![99, 0];
-    tables.jobs = vec![0; 6];
-    assert_eq!(apply(&mut tables, &Call::Rebind { job: 0, allowed: 3 }), Answer::Done);
-    let call = Call::Install { job: 0, mode: 3, flag: 0, mask: 3, places: vec![] };
-    assert_eq!(apply(&mut tables, &call), Answer::Done);
-    expect_pages(&mut tables, 0, &[Err(8), Err(8), Err(8)]);
-    tables.pages[0] = 0;
-    expect_pages(&mut tables, 0, &[Ok(0), Ok(1), Err(8)]);
+/// Likewise: nodes out of reach.
+fn reach() -> Vec<Example> {
+    let mut far_1 = fresh_a();
+    far_1.distances[1] = 255;
+    let apart = machine(&[1, 1], &[0], flat(2, 255));
+    vec![
+        Example::new("bind does not try an effective node out of reach", far_1)
+            .rebind(0b1111)
+            .install(BIND, NO_FLAG, 0b1010, &[])
+            .grants(0, &[(3, 4), (3, 5)])
+            .no_room(0),
+        Example::new("an interleave target without room keeps its turn", apart)
+            .call(Call::Rebind { job: 1, allowed: 0b01 }, Answer::Done)
+            .call(Call::Request { job: 1, cpu: 0 }, Answer::Granted { node: 0, page: 0 })
+            .rebind(0b11)
+            .install(INTERLEAVE, NO_FLAG, 0b11, &[])
+            .no_room(0)
+            .no_room(0)
+            .cursor(0)
+            .call(Call::Release { job: 1, page: 0 }, Answer::Released { node: 0, page: 0 })
+            .grants(0, &[(0, 0), (1, 1)])
+            .no_room(0),
+    ]
 }
 
-#[test]
-fn rebind_keeps_the_cursor() {
-    let mut tables = with_policy(3, 0b1111, &[]);
-    expect_pages(&mut tables, 0, &[Ok(0), Ok(2), Ok(1)]);
-    assert_eq!(cursor(&tables), 3);
-    assert_eq!(apply(&mut tables, &Call::Rebind { job: 0, allowed: 0b1010 }), Answer::Done);
-    assert_eq!(cursor(&tables), 3);
-    expect_pages(&mut tables, 0, &[Ok(4), Ok(3), Ok(5)]);
+/// A text with N and the allowed set; the mask it stands for and how that is written, or the refusal.
+#[derive(Clone, Copy, Debug, PartialEq, Eq)]
+pub struct TextExample {
+    pub nodes: usize,
+    pub allowed: u64,
+    pub text: &'static str,
+    pub outcome: Result<(u64, &'static str), u8>,
 }
 
-#[test]
-fn clear_makes_fresh_and_leaves_pages_held() {
-    let mut tables = with_policy(5, 0, &[3]);
-    expect_pages(&mut tables, 0, &[Ok(4)]);
-    assert_eq!(apply(&mut tables, &Call::Clear { job: 0 }), Answer::Done);
-    assert_eq!(tables.jobs[..6], [0; 6]);
-    assert_eq!(tables.pages, [0, 0, 0, 0, 1, 0]);
-    expect_pages(&mut tables, 0, &[Err(8)]);
-    assert_eq!(apply(&mut tables, &Call::Release { job: 0, page: 4 }), Answer::Released { node: 3, page: 4 });
+/// "Shown by example": texts, and node 63 in a text.
+pub fn texts() -> Vec<TextExample> {
+    let two_to_five = 0b0011_1100;
+    let node_63 = 1 << 63;
+    let examples = [
+        (8, two_to_five, "!4-5", Ok((0b1100_1111, "0-3,6-7"))),
+        (8, two_to_five, "+0-3", Ok((0b0011_1100, "2-5"))),
+        (8, two_to_five, "5-3", Err(12)),
+        (8, two_to_five, "1,", Err(12)),
+        (8, two_to_five, "!all", Err(12)),
+        (8, two_to_five, "01", Err(12)),
+        (64, 0, "63", Ok((node_63, "63"))),
+        (64, u64::MAX, "+63", Ok((node_63, "63"))),
+        (64, 0, "!0-62", Ok((node_63, "63"))),
+        (64, 0, "0-63", Ok((u64::MAX, "0-63"))),
+        (64, 0, "64", Err(12)),
+        (63, 0, "63", Err(12)),
+    ];
+    examples.into_iter().map(|(nodes, allowed, text, outcome)| TextExample { nodes, allowed, text, outcome }).collect()
+}
+
+/// "Journal on A: rebind job 0 to 0F, then request from CPU 0."
+#[rustfmt::skip]
+pub const JOURNAL_ON_A: [u8; 102] = [
+    0x4E, 0x50, 0, 4, 8, 0,
+    2, 0, 2, 0, 0, 0, 2, 0,
+    0, 0, 1, 1, 2, 2, 3, 3,
+    10, 20, 20, 30, 20, 10, 30, 20, 20, 30, 10, 20, 30, 20, 20, 10,
+    0x4E, 0x50, 3, 0, 0, 0, 0, 0, 0x0F, 0, 0, 0, 0, 0, 0, 0, 0, 0, 0, 0, 0, 0, 0, 0, 0, 0, 0, 0, 0, 0, 0, 0,
+    0x4E, 0x50, 1, 0, 0, 0, 0, 0, 0, 0, 0, 0, 0, 0, 0, 0, 0, 0, 0, 0, 0, 0, 0, 0, 0, 0, 0, 0, 0, 0, 0, 0,
+];
+
+/// "The whole output".
+#[rustfmt::skip]
+pub const ANSWERS_ON_A: [u8; 24] = [
+    0x4E, 0x41, 0x03, 0x00, 0xFF, 0x00, 0x00, 0x00, 0xFF, 0xFF, 0xFF, 0xFF,
+    0x4E, 0x41, 0x01, 0x00, 0x00, 0x00, 0x00, 0x00, 0x00, 0x00, 0x00, 0x00,
+];
+
+#[cfg(test)]
+mod tests {
+    use super::*;
+    use crate::journal::run;
+    use crate::text::{read_nodes, write_nodes};
+
+    /// The text of a mask.
+    fn written(nodes: usize, mask: u64) -> String {
+        let mut out = [0; 130];
+        let length = write_nodes(nodes, mask, &mut out).unwrap();
+        String::from_utf8(out[..length].to_vec()).unwrap()
+    }
+
+    #[test]
+    fn every_example_of_calls() {
+        for example in all() {
+            let mut tables = example.start.clone();
+            for (turn, step) in example.steps.iter().enumerate() {
+                let told = format!("{}: step {turn}", example.name);
+                match step {
+                    Step::Call(call, answer) => assert_eq!(apply(&mut tables, call), *answer, "{told}"),
+                    Step::Cursor(field) => assert_eq!(tables.jobs[0] >> 24, *field, "{told}"),
+                    Step::Effective(mask, text) => {
+                        assert_eq!(tables.jobs[3], *mask, "{told}");
+                        assert_eq!(written(tables.counts.len(), *mask), *text, "{told}");
+                    }
+                    Step::Record(words) => assert_eq!(tables.jobs[..WORDS], *words, "{told}"),
+                }
+            }
+            if let Some((journal, answers)) = example.journal() {
+                assert_eq!(run(&journal), answers, "{}", example.name);
+            }
+        }
+    }
+
+    #[test]
+    fn every_example_of_text() {
+        for TextExample { nodes, allowed, text, outcome } in texts() {
+            assert_eq!(read_nodes(nodes, allowed, text.as_bytes()), outcome.map(|(mask, _)| mask), "{text}");
+            if let Ok((mask, back)) = outcome {
+                assert_eq!(written(nodes, mask), back, "{text}");
+            }
+        }
+    }
+
+    #[test]
+    fn the_journal_on_a_byte_for_byte() {
+        assert_eq!(run(&JOURNAL_ON_A), ANSWERS_ON_A);
+    }
 }

@@ -7,16 +7,16 @@
 #![forbid(unsafe_code)]
 
 pub mod calls;
+pub mod examples;
 pub mod fair;
 pub mod generate;
 pub mod journal;
 pub mod machine;
 pub mod masks;
 pub mod order;
+pub mod program;
 pub mod record;
 pub mod text;
 
-#[cfg(test)]
-mod examples;
 #[cfg(test)]
 mod refusals;

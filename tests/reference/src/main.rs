@@ -1,11 +1,12 @@
 //! The program: runs, makes and compares journals.
 
 use std::io::{Read, Write};
-use std::process::{Command, ExitCode, Stdio};
+use std::process::ExitCode;
 
 use reference::fair;
 use reference::generate;
 use reference::journal::{run, ANSWER};
+use reference::program::output_of;
 
 const USAGE: &str = "usage:
   reference run < JOURNAL > ANSWERS         the journal program itself
@@ -69,28 +70,6 @@ fn make(seed: &str, records: &str) -> Result<(), String> {
 /// `reference damaged SEED`.
 fn make_damaged(seed: &str) -> Result<(), String> {
     standard_output(&generate::damaged(number(seed)?))
-}
-
-/// What PLACER writes for a journal; it may end before it has read all of it.
-fn output_of(placer: &str, journal: &[u8]) -> Result<Vec<u8>, String> {
-    let mut child = Command::new(placer)
-        .stdin(Stdio::piped())
-        .stdout(Stdio::piped())
-        .spawn()
-        .map_err(|error| format!("{placer}: {error}"))?;
-    let input = child.stdin.take();
-    let bytes = journal.to_vec();
-    let writer = std::thread::spawn(move || {
-        if let Some(mut input) = input {
-            let _ = input.write_all(&bytes);
-        }
-    });
-    let output = child.wait_with_output().map_err(|error| format!("{placer}: {error}"))?;
-    let _ = writer.join();
-    if output.status.code().is_none() {
-        return Err(format!("{placer} was stopped: {}", output.status));
-    }
-    Ok(output.stdout)
 }
 
 /// The bytes of one answer in hexadecimal.

@@ -181,15 +181,6 @@ mod tests {
     }
 
     #[test]
-    fn examples_of_the_paper() {
-        assert_eq!(read_8("!4-5"), Ok(0b1100_1111));
-        assert_eq!(read_8("+0-3"), Ok(0b0011_1100));
-        for bad in ["5-3", "1,", "!all", "01"] {
-            assert_eq!(read_8(bad), Err(12), "{bad}");
-        }
-    }
-
-    #[test]
     fn accepted_texts() {
         assert_eq!(read_8(""), Ok(0));
         assert_eq!(read_8("all"), Ok(0b0011_1100));
@@ -282,15 +273,6 @@ mod tests {
         text.push(b'1');
         assert_eq!(read_nodes(64, 0, &text), Err(12));
         assert_eq!(read_nodes(64, 0, &vec![b'0'; 1_000_000]), Err(12));
-    }
-
-    #[test]
-    fn node_63_with_n_64() {
-        assert_eq!(read_nodes(64, 0, b"63"), Ok(1 << 63));
-        assert_eq!(read_nodes(64, 0, b"0-63"), Ok(u64::MAX));
-        assert_eq!(read_nodes(64, u64::MAX, b"+63"), Ok(1 << 63));
-        assert_eq!(read_nodes(64, 0, b"64"), Err(12));
-        assert_eq!(read_nodes(63, 0, b"63"), Err(12));
     }
 
     /// Writes into 130 marked bytes and gives the text, checking the bytes past it.

@@ -1,14 +1,13 @@
 -- `read_nodes` meets its contract, refusal by refusal.
 -- Assumes nothing.
 use mathlib.Core.Path.{_≡_, sym, ap, _∙_}
-use Prim.Native.Nat.{ℕ}
+use Prim.Native.Nat.{ℕ, _^_}
 use mathlib.Core.Bool.{true, false}
-use borrow.Author.Tests.{not-true, not-false}
+use borrow.Author.Tests.{not-true, not-false, ltb-true}
 use borrow.Author.Needs.{needs}
 use Rattle.rules.specs.Machine.{nodesOk}
 use Rattle.rules.specs.Masks.{below}
-use Rattle.rules.specs.Text.{formOf, readText}
-use Rattle.nodelist.specs.Reader.{maskRead}
+use Rattle.rules.specs.Text.{formOf}
 use Rattle.nodelist.specs.Forms.{formRead, decided}
 use Rattle.nodelist.proofs.FormLaws.{refused-nodes, refused-allowed, refused-length, decided-form, nodes-small}
 use Rattle.nodelist.proofs.read_nodes.Statement.{statement}
@@ -57,29 +56,20 @@ returns-3 c =
     sym (refused-length (a .nodes) (a .allowed) (a .text .now) (nodes-fine (d .before)) (allowed-fine d) (c .if3 .taken))
 
 read-form-requires : tie.Need-read-form-requires
-read-form-requires c κs = nodes-small (c .before .before .before .before .before .before .before .args .nodes) (nodes-fine (c .before .before))
+read-form-requires c κs =
+    let d = c .before in
+    let a = d .before .before .before .before .before .before .args in
+    let o = d .before .before .before .before .of in
+    (nodes-small (a .nodes) (nodes-fine (d .before)), rw (o .ensures) (ltb-true (a .allowed) (2 ^ a .nodes) (allowed-fine d)))
 
--- the answer is that of the form
-read-is : (c : tie.After-read-form) → let a = c .before .before .before .before .before .before .before .before .args in
-    readText (a .nodes) (a .allowed) (a .text .now) ≡ decided (maskRead (c .read-form .result))
-read-is c =
+returns-4 : tie.Need-returns-4
+returns-4 c =
     let d = c .before .before in
     let o = d .before .before .before .before .of in
     let a = d .before .before .before .before .before .before .args in
-    decided-form (a .nodes) (a .allowed) (a .text .now) (nodes-fine (d .before)) (allowed-fine d) (c .before .if3 .left)
-    ∙ ap decided (sym (c .read-form .ensures ∙ ap (λ (m : ℕ). formRead (a .nodes) m (formOf (a .text .now))) (o .ensures)))
-
-enum-known-items : tie.Need-enum-known-items
-enum-known-items c = search needs
-
-enum-told : tie.Need-enum-told
-enum-told c = search needs
-
-returns-4 : tie.Need-returns-4
-returns-4 c = rw (read-is (c .before .before .before), c .before .items .given .1)
-
-returns-5 : tie.Need-returns-5
-returns-5 c = rw (read-is (c .before .before), c .enum-told .given .1)
+    c .read-form .ensures
+    ∙ ap (λ (m : ℕ). decided (formRead (a .nodes) m (formOf (a .text .now)))) (o .ensures)
+    ∙ sym (decided-form (a .nodes) (a .allowed) (a .text .now) (nodes-fine (d .before)) (allowed-fine d) (c .before .if3 .left))
 
 pub read-nodes-spec : {M : Type 1} → statement M
 read-nodes-spec =
@@ -92,7 +82,4 @@ read-nodes-spec =
     returns-2
     returns-3
     read-form-requires
-    enum-known-items
-    enum-told
-    returns-4
-    returns-5)
+    returns-4)

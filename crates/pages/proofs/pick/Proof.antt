@@ -1,21 +1,24 @@
 -- `pick` meets its contract.
 -- Assumes nothing.
-use Prim.Native.Nat.{_≤_, _<_, _-_}
+use Prim.Native.Nat.{ℕ, _+_, _-_, _≤_, _<_}
 use mathlib.Core.Path.{_≡_, refl, sym, ap, _∙_}
+use mathlib.Core.List.{List}
+use mathlib.Core.Option.{none}
+use native.Mathlib.Nat.{le-of-lt}
 use native.Mathlib.Omega.{arith}
-use lib.ListN.{length, drop, length-set, drop-of-length-le}
-use Rattle.pages.specs.declared.Found.the-variants.{At, Full}
-use Rattle.pages.specs.FirstZero.{shift, firstZero}
-use Rattle.pages.proofs.FirstZero.{shift-zero, zero-at, zero-past}
+use borrow.Author.Needs.{needs}
+use lib.ListN.{length, take, drop, length-take, length-set, drop-of-length-le}
+use Rattle.pages.specs.FirstZero.{shift, firstZero, zeroOrEnd}
+use Rattle.pages.proofs.FirstZero.{shift-zero, marked-found, block-index, block-found, block-none}
 use Rattle.pages.proofs.pick.Statement.{statement}
 use Rattle.pages.proofs.pick.Tie as tie
 
 abbrev Inv-loop : tie.InvT-loop
-Inv-loop part₀ holder a b i₀ part i =
+Inv-loop part₀ holder wide narrow i₀ part i =
     (i ≤ length part₀) × (part ≡ part₀) × (firstZero part₀ ≡ shift i (firstZero (drop i part₀)))
 
 abbrev μ-loop : tie.MeasureT-loop
-μ-loop part₀ holder a b i₀ part i = length part₀ - i
+μ-loop part₀ holder wide narrow i₀ part i = length part₀ - i
 
 skip-requires : tie.Need-skip-requires Inv-loop μ-loop
 skip-requires c κs = (omega arith, omega arith)
@@ -26,33 +29,71 @@ skip-requires-2 c κs = (c .before .skip .ensures .0, omega arith)
 loop-holds : tie.Need-loop-holds Inv-loop μ-loop
 loop-holds c = (c .skip2 .ensures .0, refl, sym (shift-zero _) ∙ c .before .before .skip .ensures .1 ∙ c .skip2 .ensures .1)
 
-slice-read-if1 : tie.Need-slice-read-if1 Inv-loop μ-loop
-slice-read-if1 c = omega arith
+block-end-requires : tie.Need-block-end-requires Inv-loop μ-loop
+block-end-requires c κs = search needs
+
+sub-lowest-zero : tie.Need-sub-lowest-zero Inv-loop μ-loop
+sub-lowest-zero c = search needs
+
+part-lowest-zero-start : tie.Need-part-lowest-zero-start Inv-loop μ-loop
+part-lowest-zero-start c = search needs
+
+part-lowest-zero-end : tie.Need-part-lowest-zero-end Inv-loop μ-loop
+part-lowest-zero-end c = search needs
+
+lowest-zero-requires : tie.Need-lowest-zero-requires Inv-loop μ-loop
+lowest-zero-requires c κs =
+    let l = c .before .before .before .before .loop in
+    omega (arith, length-take (c .before .before .block-end .result - l .i) (drop (l .i) (l .part)), c .before .before .block-end .ensures .2)
+
+-- ---- after a block has been looked at: the part, where the block starts and ends, and the index of its lowest zero, or its length
+
+abbrev part-of : tie.After-lowest-zero Inv-loop μ-loop → List ℕ
+part-of c = c .before .before .before .before .before .before .before .before .before .before .before .args .part .now
+
+abbrev start : tie.After-lowest-zero Inv-loop μ-loop → ℕ
+start c = c .before .before .before .before .before .loop .i
+
+abbrev end : tie.After-lowest-zero Inv-loop μ-loop → ℕ
+end c = c .before .before .before .block-end .result
+
+unmarked : (c : tie.After-lowest-zero Inv-loop μ-loop) → c .before .before .before .before .before .loop .part ≡ part-of c
+unmarked c = c .before .before .before .before .before .loop .inv .1
+
+so-far : (c : tie.After-lowest-zero Inv-loop μ-loop) → firstZero (part-of c) ≡ shift (start c) (firstZero (drop (start c) (part-of c)))
+so-far c = c .before .before .before .before .before .loop .inv .2
+
+forward : (c : tie.After-lowest-zero Inv-loop μ-loop) → start c < end c
+forward c = c .before .before .before .block-end .ensures .0
+
+inside : (c : tie.After-lowest-zero Inv-loop μ-loop) → end c ≤ length (part-of c)
+inside c = omega (arith, c .before .before .before .block-end .ensures .1, ap length (unmarked c))
+
+looked : (c : tie.After-lowest-zero Inv-loop μ-loop) → c .lowest-zero .result ≡ zeroOrEnd (take (end c - start c) (drop (start c) (part-of c)))
+looked c = c .lowest-zero .ensures ∙ ap (λ (xs : List ℕ). zeroOrEnd (take (end c - start c) (drop (start c) xs))) (unmarked c)
+
+add-at : tie.Need-add-at Inv-loop μ-loop
+add-at c = record { fits = omega (arith, forward c, block-index _ _ _ _ (le-of-lt (forward c)) (inside c) (looked c)) }
 
 slice-write-part : tie.Need-slice-write-part Inv-loop μ-loop
-slice-write-part c = omega arith
+slice-write-part c = omega (arith, c .if1 .taken, inside (c .before), ap length (unmarked (c .before)))
 
 same-length : tie.Need-same-length Inv-loop μ-loop
-same-length c = simp length-set (ap length (c .before .before .before .loop .inv .1))
+same-length c = simp length-set (ap length (unmarked (c .before)))
 
 returns : tie.Need-returns Inv-loop μ-loop
 returns c =
-    let v = c .before .before .before .loop .inv in
-    let e : firstZero (c .before .before .before .before .before .before .before .before .before .args .part .now) ≡ At (c .before .before .before .loop .i) =
-    v .2 ∙ zero-at _ _ (rw (v .1) at (c .before .before .loop-test .taken)) (rw (v .1) at (c .if1 .taken)) in
-    (sym e, rw (e, v .1))
-
-add-i : tie.Need-add-i Inv-loop μ-loop
-add-i c = omega arith
+    let b = c .before in
+    let e = so-far b ∙ block-found _ _ _ _ (le-of-lt (forward b)) (inside b) (looked b) (c .if1 .taken) in
+    (sym e, marked-found _ (unmarked b) e)
 
 loop-less : tie.Need-loop-less Inv-loop μ-loop
-loop-less c = omega (arith, ap length (c .before .before .before .loop .inv .1))
+loop-less c = omega (arith, forward (c .before), inside (c .before))
 
 loop-again : tie.Need-loop-again Inv-loop μ-loop
 loop-again c =
-    let v = c .before .before .before .loop .inv in
-    let h : c .before .before .before .loop .i < length (c .before .before .before .before .before .before .before .before .before .args .part .now) = rw (v .1) at (c .before .before .loop-test .taken) in
-    (omega arith, v .1, v .2 ∙ zero-past _ _ h (rw (v .1) at (c .if1 .left)))
+    let b = c .before in
+    (inside b, unmarked b, so-far b ∙ block-none _ _ _ _ (le-of-lt (forward b)) (inside b) (looked b) (c .if1 .left))
 
 same-length-2 : tie.Need-same-length-2 Inv-loop μ-loop
 same-length-2 c = ap length (c .before .loop .inv .1)
@@ -60,7 +101,8 @@ same-length-2 c = ap length (c .before .loop .inv .1)
 returns-2 : tie.Need-returns-2 Inv-loop μ-loop
 returns-2 c =
     let v = c .before .loop .inv in
-    let e : firstZero (c .before .before .before .before .before .before .before .args .part .now) ≡ Full = v .2 ∙ rw (drop-of-length-le _ (rw (v .1) at (c .loop-test .left))) in
+    let e : firstZero (c .before .before .before .before .before .before .before .args .part .now) ≡ none =
+    v .2 ∙ rw (drop-of-length-le _ (rw (v .1) at (c .loop-test .left))) in
     (sym e, rw (e, v .1))
 
 pub pick-spec : {M : Type 1} → statement M
@@ -72,11 +114,15 @@ pick-spec =
     skip-requires
     skip-requires-2
     loop-holds
-    slice-read-if1
+    block-end-requires
+    sub-lowest-zero
+    part-lowest-zero-start
+    part-lowest-zero-end
+    lowest-zero-requires
+    add-at
     slice-write-part
     same-length
     returns
-    add-i
     loop-less
     loop-again
     same-length-2

@@ -1,4 +1,4 @@
--- `answer_part`: 4,096 bytes have at most 128 records, and there is room for 129 answers.
+-- `answer_part`: 65,536 bytes have at most 2,048 records, and there is room for 2,049 answers.
 -- Assumes nothing.
 use mathlib.Core.Path.{sym}
 use lib.Seq.{length-take-le}
@@ -7,8 +7,8 @@ use borrow.Author.Needs.{needs}
 use Rattle.placer.proofs.answer_part.Statement.{statement}
 use Rattle.placer.proofs.answer_part.Tie as tie
 
-buffer-requires : tie.Need-buffer-requires
-buffer-requires c κs = search needs
+large-buffer-requires : tie.Need-large-buffer-requires
+large-buffer-requires c κs = search needs
 
 answer-buffer-requires : tie.Need-answer-buffer-requires
 answer-buffer-requires c κs = search needs
@@ -53,7 +53,7 @@ pub answer-part-spec : {M : Type 1} → statement M
 answer-part-spec =
     tie.close
     (tie.spec
-    buffer-requires
+    large-buffer-requires
     answer-buffer-requires
     slice-aggregate-read-full
     read-full-requires

@@ -1,11 +1,11 @@
 -- `read_except` meets its contract, by what the items past the mark give.
 -- Assumes nothing.
-use mathlib.Core.Option.{Option, some}
 use mathlib.Core.Path.{_≡_, sym, ap, subst, _∙_}
 use Prim.Native.Nat.{ℕ}
 use lib.ListN.{drop}
 use borrow.Author.Needs.{needs}
-use Rattle.nodelist.specs.Reader.{maskRead, itemsRead}
+use Rattle.rules.specs.Calls.{Decision, accept}
+use Rattle.nodelist.specs.Reader.{numbersRead, itemsRead}
 use Rattle.nodelist.specs.Forms.{Below}
 use Rattle.nodelist.proofs.FormLaws.{items-below, past-mark}
 use Rattle.nodelist.proofs.forms.read_except.Statement.{statement}
@@ -24,7 +24,8 @@ read-items-requires : tie.Need-read-items-requires
 read-items-requires c κs = search needs
 
 -- the items past the mark
-told : (c : tie.After-read-items) → let a = c .before .before .before .args in maskRead (c .read-items .result) ≡ itemsRead (a .nodes) (drop 1 (a .text .now))
+told : (c : tie.After-read-items) → let a = c .before .before .before .args in
+    numbersRead (c .read-items .result) ≡ itemsRead (a .nodes) (drop 1 (a .text .now))
 told c =
     let a = c .before .before .before .args in
     c .read-items .ensures ∙ ap (itemsRead (a .nodes)) (past-mark (a .text .now))
@@ -32,12 +33,16 @@ told c =
 enum-known-items : tie.Need-enum-known-items
 enum-known-items c = search needs
 
+nodes-requires : tie.Need-nodes-requires
+nodes-requires c κs = search needs
+
 others-requires : tie.Need-others-requires
 others-requires c κs =
-    let s = c .before .before .before .before .before .before in (
+    let s = c .before .before .before .before .before .before .before in (
       s .pre .1,
-      subst (Below (s .args .nodes)) (sym (told (c .before .before .before)) ∙ ap maskRead (c .before .items .given .1))
-          (items-below (s .args .nodes) (drop 1 (s .args .text .now)) (s .pre .1)),
+      rw (c .nodes .ensures)
+          (subst (Below (s .args .nodes)) (sym (told (c .before .before .before .before)) ∙ ap numbersRead (c .before .before .items .given .1))
+          (items-below (s .args .nodes) (drop 1 (s .args .text .now)) (s .pre .1))),
     )
 
 enum-told : tie.Need-enum-told
@@ -45,8 +50,8 @@ enum-told c = search needs
 
 returns : tie.Need-returns
 returns c =
-    rw (← told (c .before .before .before .before), c .before .before .items .given .1)
-    (ap {B = Option ℕ} some (c .others .ensures))
+    rw (← told (c .before .before .before .before .before), c .before .before .before .items .given .1)
+    (ap {B = Decision ℕ} accept (rw (c .before .nodes .ensures) at (c .others .ensures)))
 
 returns-2 : tie.Need-returns-2
 returns-2 c = rw (← told (c .before .before), c .enum-told .given .1)
@@ -60,6 +65,7 @@ read-except-spec =
     part-read-items-end
     read-items-requires
     enum-known-items
+    nodes-requires
     others-requires
     enum-told
     returns

@@ -5,7 +5,7 @@ use mathlib.Core.Path.{sym, ap, _∙_}
 use native.Mathlib.Nat.{pos-of-ne-zero}
 use borrow.Author.Needs.{needs}
 use Rattle.rules.specs.Text.{formOk, formMask}
-use Rattle.nodelist.specs.Forms.{formRead}
+use Rattle.nodelist.specs.Forms.{formRead, decided}
 use Rattle.nodelist.proofs.FormLaws.{form-none, form-all, form-except, form-ranks, form-items, read-plain, read-except, read-ranks}
 use Rattle.nodelist.proofs.forms.read_form.Statement.{statement}
 use Rattle.nodelist.proofs.forms.read_form.Tie as tie
@@ -33,9 +33,11 @@ returns-3 c =
     let s = t .before .before .before .before in
     let a = s .args in
     c .read-except .ensures
-    ∙ read-except (a .nodes) (a .allowed .0) (drop 1 (a .text .now)) (s .pre)
+    ∙ ap decided
+    (read-except (a .nodes) (a .allowed .0) (drop 1 (a .text .now)) (s .pre .0)
     ∙ ap (formRead (a .nodes) (a .allowed .0))
-    (sym (form-except (a .text .now) (pos-of-ne-zero (t .before .before .if1 .left)) (sym (t .before .is-all .ensures) ∙ t .if2 .left) (c .before .if3 .taken)))
+    (sym (form-except (a .text .now) (pos-of-ne-zero (t .before .before .if1 .left)) (sym (t .before .is-all .ensures) ∙ t .if2 .left)
+    (c .before .if3 .taken))))
 
 read-ranks-requires : tie.Need-read-ranks-requires
 read-ranks-requires c κs = search needs
@@ -46,22 +48,26 @@ returns-4 c =
     let s = t .before .before .before .before in
     let a = s .args in
     c .read-ranks .ensures
-    ∙ read-ranks (a .nodes) (a .allowed .0) (drop 1 (a .text .now)) (s .pre)
+    ∙ ap decided
+    (read-ranks (a .nodes) (a .allowed .0) (drop 1 (a .text .now)) (s .pre .0) (s .pre .1)
     ∙ ap (formRead (a .nodes) (a .allowed .0))
-    (sym (form-ranks (a .text .now) (pos-of-ne-zero (t .before .before .if1 .left)) (sym (t .before .is-all .ensures) ∙ t .if2 .left) (c .before .if4 .taken)))
+    (sym (form-ranks (a .text .now) (pos-of-ne-zero (t .before .before .if1 .left)) (sym (t .before .is-all .ensures) ∙ t .if2 .left)
+    (c .before .if4 .taken))))
 
-read-items-requires : tie.Need-read-items-requires
-read-items-requires c κs = search needs
+read-plain-requires : tie.Need-read-plain-requires
+read-plain-requires c κs = search needs
 
 returns-5 : tie.Need-returns-5
 returns-5 c =
     let t = c .before .before .before .before in
     let s = t .before .before .before .before in
     let a = s .args in
-    c .read-items .ensures
-    ∙ read-plain (a .nodes) (a .allowed .0) (a .text .now) (s .pre)
+    c .read-plain .ensures
+    ∙ ap decided
+    (read-plain (a .nodes) (a .allowed .0) (a .text .now) (s .pre .0)
     ∙ ap (formRead (a .nodes) (a .allowed .0))
-    (sym (form-items (a .text .now) (pos-of-ne-zero (t .before .before .if1 .left)) (sym (t .before .is-all .ensures) ∙ t .if2 .left) (c .before .before .if3 .left) (c .before .if4 .left)))
+    (sym (form-items (a .text .now) (pos-of-ne-zero (t .before .before .if1 .left)) (sym (t .before .is-all .ensures) ∙ t .if2 .left)
+    (c .before .before .if3 .left) (c .before .if4 .left))))
 
 pub read-form-spec : {M : Type 1} → statement M
 read-form-spec =
@@ -75,5 +81,5 @@ read-form-spec =
     returns-3
     read-ranks-requires
     returns-4
-    read-items-requires
+    read-plain-requires
     returns-5)

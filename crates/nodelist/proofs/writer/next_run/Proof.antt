@@ -12,49 +12,55 @@ use Rattle.nodelist.proofs.LineLaws.{no-run-from, run-from}
 use Rattle.nodelist.proofs.writer.next_run.Statement.{statement}
 use Rattle.nodelist.proofs.writer.next_run.Tie as tie
 
+cast-above : tie.Need-cast-above
+cast-above c = search needs
+
 shr-above : tie.Need-shr-above
 shr-above c = search needs
 
 returns : tie.Need-returns
-returns c = let a = c .before .before .args in no-run-from (a .mask .0) (a .at) (c .if1 .taken)
+returns c = let a = c .before .before .before .args in no-run-from (a .mask .0) (a .from .0) (c .if1 .taken)
 
 -- where the run starts, and how many nodes it has
 abbrev low-of : tie.Else1 → ℕ
-low-of c = let a = c .before .before .args in a .at + trailingZeros 64 (a .mask .0 / 2 ^ a .at)
+low-of c = let a = c .before .before .before .args in a .from .0 + trailingZeros 64 (a .mask .0 / 2 ^ a .from .0)
 
 abbrev ones-of : tie.Else1 → ℕ
-ones-of c = trailingZeros 64 (allNodes 64 - c .before .before .args .mask .0 / 2 ^ low-of c)
+ones-of c = trailingZeros 64 (allNodes 64 - c .before .before .before .args .mask .0 / 2 ^ low-of c)
 
 low-small : (c : tie.Else1) → low-of c < 64
-low-small c = let a = c .before .before .args in trailing-from 64 (a .mask .0) (a .at) (omega arith) (pos-of-ne-zero (c .if1 .left)) .small
+low-small c = let a = c .before .before .before .args in trailing-from 64 (a .mask .0) (a .from .0) (omega arith) (pos-of-ne-zero (c .if1 .left)) .small
 
-found : (c : tie.Else1) → let a = c .before .before .args in FirstRun 64 (a .mask .0) (a .at) (low-of c) (ones-of c)
-found c = let a = c .before .before .args in first-run 64 (a .mask .0) (a .at) (omega arith) (pos-of-ne-zero (c .if1 .left))
+found : (c : tie.Else1) → let a = c .before .before .before .args in FirstRun 64 (a .mask .0) (a .from .0) (low-of c) (ones-of c)
+found c = let a = c .before .before .before .args in first-run 64 (a .mask .0) (a .from .0) (omega arith) (pos-of-ne-zero (c .if1 .left))
 
 cast-low : tie.Need-cast-low
 cast-low c = omega (arith, low-small c)
 
 add-low : tie.Need-add-low
-add-low c = omega (arith, low-small c)
-
-shr-ones : tie.Need-shr-ones
-shr-ones c = low-small (c .before)
+add-low c = omega (arith, low-small (c .before))
 
 cast-ones : tie.Need-cast-ones
-cast-ones c = omega (arith, found (c .before) .within)
+cast-ones c = omega (arith, low-small (c .before))
+
+shr-ones : tie.Need-shr-ones
+shr-ones c = low-small (c .before .before)
+
+cast-ones-2 : tie.Need-cast-ones-2
+cast-ones-2 c = omega (arith, found (c .before .before) .within)
 
 add-t9 : tie.Need-add-t9
-add-t9 c = omega (arith, found (c .before) .within)
+add-t9 c = omega (arith, found (c .before .before) .within)
 
-sub-t12 : tie.Need-sub-t12
-sub-t12 c = omega (arith, found (c .before) .some)
+sub-t13 : tie.Need-sub-t13
+sub-t13 c = omega (arith, found (c .before .before) .some)
 
 returns-2 : tie.Need-returns-2
 returns-2 c =
-    let a = c .before .before .before .args in
-    run-from (a .mask .0) (a .at) (low-of (c .before)) (ones-of (c .before)) (omega arith) (found (c .before))
+    let a = c .before .before .before .before .before .args in
+    run-from (a .mask .0) (a .from .0) (low-of (c .before .before)) (ones-of (c .before .before)) (omega arith) (found (c .before .before))
 
 pub next-run-spec : {M : Type 1} → statement M
 next-run-spec =
     tie.close
-    (tie.spec shr-above returns cast-low add-low shr-ones cast-ones add-t9 sub-t12 returns-2)
+    (tie.spec cast-above shr-above returns cast-low add-low cast-ones shr-ones cast-ones-2 add-t9 sub-t13 returns-2)

@@ -7,44 +7,50 @@ use Rattle.nodelist.proofs.writer.put_run.Statement.{statement}
 use Rattle.nodelist.proofs.writer.put_run.Tie as tie
 
 element-write-line : tie.Need-element-write-line
-element-write-line c = omega (arith, run-room (c .args .low) (c .args .high))
+element-write-line c = omega (arith, run-room (c .args .low .0) (c .args .high .0))
 
 add-put-number : tie.Need-add-put-number
 add-put-number c = search needs
 
+cast-put-number : tie.Need-cast-put-number
+cast-put-number c = search needs
+
 put-number-requires : tie.Need-put-number-requires
-put-number-requires c κs = let a = c .before .args in omega (arith, run-room (a .low) (a .high))
+put-number-requires c κs = let a = c .before .before .args in omega (arith, run-room (a .low .0) (a .high .0))
 
 returns : tie.Need-returns
 returns c =
-    let a = c .before .before .before .args in
-    let p = c .before .put-number in
-    put-single (a .low) (a .high) (a .line .now) (a .at) (p .ensures .0) (p .ensures .1) (c .if1 .taken)
+    let a = c .before .before .before .before .before .before .args in
+    let p = c .before .before .before .put-number in
+    put-single (a .low .0) (a .high .0) (a .line .now) (a .at) (p .ensures .0) (p .ensures .1) (c .if1 .taken)
 
 element-write-line-2 : tie.Need-element-write-line-2
 element-write-line-2 c =
-    let a = c .before .before .before .args in
-    omega (arith, c .before .put-number .ensures .0, double-room (a .low) (a .high) (c .if1 .left))
+    let a = c .before .before .before .before .before .before .args in
+    omega (arith, c .before .before .before .put-number .ensures .0, double-room (a .low .0) (a .high .0) (c .if1 .left))
 
 add-put-number-2 : tie.Need-add-put-number-2
 add-put-number-2 c =
     let d = c .before in
-    let a = d .before .before .before .args in
-    omega (arith, d .before .put-number .ensures .0, double-room (a .low) (a .high) (d .if1 .left))
+    let a = d .before .before .before .before .before .before .args in
+    omega (arith, d .before .before .before .put-number .ensures .0, double-room (a .low .0) (a .high .0) (d .if1 .left))
+
+cast-put-number-2 : tie.Need-cast-put-number-2
+cast-put-number-2 c = search needs
 
 put-number-requires-2 : tie.Need-put-number-requires-2
 put-number-requires-2 c κs =
-    let d = c .before in
-    let a = d .before .before .before .args in
-    omega (arith, d .before .put-number .ensures .0, double-room (a .low) (a .high) (d .if1 .left))
+    let d = c .before .before in
+    let a = d .before .before .before .before .before .before .args in
+    omega (arith, d .before .before .before .put-number .ensures .0, double-room (a .low .0) (a .high .0) (d .if1 .left))
 
 returns-2 : tie.Need-returns-2
 returns-2 c =
-    let d = c .before .before in
-    let a = d .before .before .before .args in
-    let p = d .before .put-number in
+    let d = c .before .before .before in
+    let a = d .before .before .before .before .before .before .args in
+    let p = d .before .before .before .put-number in
     let q = c .put-number2 in
-    put-double (a .low) (a .high) (a .line .now) (a .at) (p .ensures .0) (p .ensures .1) (d .if1 .left) (q .ensures .0) (q .ensures .1)
+    put-double (a .low .0) (a .high .0) (a .line .now) (a .at) (p .ensures .0) (p .ensures .1) (d .if1 .left) (q .ensures .0) (q .ensures .1)
 
 pub put-run-spec : {M : Type 1} → statement M
 put-run-spec =
@@ -52,9 +58,11 @@ put-run-spec =
     (tie.spec
     element-write-line
     add-put-number
+    cast-put-number
     put-number-requires
     returns
     element-write-line-2
     add-put-number-2
+    cast-put-number-2
     put-number-requires-2
     returns-2)

@@ -4,6 +4,7 @@ use mathlib.Core.Path.{_≡_, subst}
 use Prim.Native.Nat.{ℕ, _-_, _≤_}
 use borrow.Author.Needs.{needs}
 use native.Mathlib.Omega.{arith}
+use Rattle.rules.specs.declared.Node.{Node}
 use Rattle.nodelist.specs.declared.writer.NextRun.the-variants.{Run as Span}
 use Rattle.nodelist.specs.Writer.{FirstFrom}
 use Rattle.nodelist.proofs.LineLaws.{Lined, lined-start, lined-room, lined-step, lined-end, no-run-past}
@@ -26,7 +27,7 @@ enum-known-run : tie.Need-enum-known-run Inv-loop μ-loop
 enum-known-run c = search needs
 
 -- what is known of a run that is found
-first-run : (c : tie.After-next-run Inv-loop μ-loop) (low high : ℕ) → c .next-run .result ≡ Span low high
+first-run : (c : tie.After-next-run Inv-loop μ-loop) (low high : Node) → c .next-run .result ≡ Span low high
     → FirstFrom (c .before .before .before .args .mask .0) (c .before .before .loop .at) (Span low high)
 first-run c low high e = subst (FirstFrom (c .before .before .before .args .mask .0) (c .before .before .loop .at)) e (c .next-run .ensures)
 
@@ -39,21 +40,21 @@ put-run-requires c κs =
 
 add-at : tie.Need-add-at Inv-loop μ-loop
 add-at c =
-    let d = c .before .before .before .before .before in
-    omega (arith, first-run d _ _ (c .before .before .before .run .given .1) .2)
+    let d = c .before .before .before .before .before .before in
+    omega (arith, first-run d _ _ (c .before .before .before .before .run .given .1) .2)
 
 loop-less : tie.Need-loop-less Inv-loop μ-loop
 loop-less c =
-    let d = c .before .before .before .before .before in
-    let f = first-run d _ _ (c .before .before .before .run .given .1) in
+    let d = c .before .before .before .before .before .before in
+    let f = first-run d _ _ (c .before .before .before .before .run .given .1) in
     omega (arith, f .0, f .1, f .2)
 
 loop-again : tie.Need-loop-again Inv-loop μ-loop
 loop-again c =
-    let d = c .before .before .before .before .before in
-    let f = first-run d _ _ (c .before .before .before .run .given .1) in
+    let d = c .before .before .before .before .before .before in
+    let f = first-run d _ _ (c .before .before .before .before .run .given .1) in
     let l = d .before .before in
-    (omega (arith, f .2), lined-step (l .loop .inv .1) _ (f .3) (c .put-run .ensures .0) (c .put-run .ensures .1))
+    (omega (arith, f .2), lined-step (l .loop .inv .1) _ (f .3) (c .before .put-run .ensures .0) (c .before .put-run .ensures .1))
 
 enum-told : tie.Need-enum-told Inv-loop μ-loop
 enum-told c = search needs

@@ -1,88 +1,41 @@
--- `Mask::folded` meets its contract. The loop's invariant: the nodes of the user bits passed are in, and the node at hand is the next bit's.
+-- `Mask::folded` meets its contract: the ranks are those of the user's bits mod the size.
 -- Assumes nothing.
-use mathlib.Core.Path.{_≡_, refl, sym, ap, _∙_}
-use mathlib.Core.Logic.{⊎-elim}
-use Prim.Native.Nat.{_-_, _≤_}
-use native.Mathlib.Nat.{zero-mod}
-use borrow.Author.Needs.{needs}
+use Prim.Native.Nat.{ℕ}
+use mathlib.Core.Path.{refl, ap, _∙_}
 use native.Mathlib.Omega.{arith}
-use Rattle.rules.specs.Masks.{image, foldedTo, folded, rank, select}
-use Rattle.rules.proofs.Masks.{in-true, in-false, image-take, image-skip, select-mod}
-use Rattle.nodemask.specs.declared.Mask.{Mask}
+use borrow.Author.Needs.{needs}
+use Rattle.rules.specs.Masks.{folded, foldedTo}
+use Rattle.rules.proofs.Masks.{size-pos, rank-le}
+use Rattle.nodemask.specs.Ranks.{wrapped, rankedIn}
+use Rattle.nodemask.proofs.RankLaws.{image-ranked}
 use Rattle.nodemask.proofs.Mask.folded.Statement.{statement}
 use Rattle.nodemask.proofs.Mask.folded.Tie as tie
 
-abbrev Inv-loop : tie.InvT-loop
-Inv-loop self allowed out₀ node₀ b₀ out node b =
-    (b ≤ 64) × (out .0 ≡ image (self .0) (foldedTo 64 (allowed .0)) b) × (node .0 ≡ foldedTo 64 (allowed .0) b)
+of-requires : tie.Need-of-requires
+of-requires c κs = search needs
 
-abbrev μ-loop : tie.MeasureT-loop
-μ-loop self allowed out₀ node₀ b₀ out node b = 64 - b
+size-requires : tie.Need-size-requires
+size-requires c κs = search needs
 
-lowest-requires : tie.Need-lowest-requires Inv-loop μ-loop
-lowest-requires c κs = search needs
+wrapped-requires : tie.Need-wrapped-requires
+wrapped-requires c κs =
+    let m = c .before .before .args .allowed .0 in
+    (omega (arith, c .size .ensures, size-pos 64 m (c .before .before .pre) (omega arith)), omega (arith, c .size .ensures, rank-le m 64))
 
-loop-holds : tie.Need-loop-holds Inv-loop μ-loop
-unfolding image
-loop-holds c =
-    let m = c .before .args .allowed .0 in
-    (search needs, refl, c .lowest .ensures ∙ ap (select 64 m) (sym (zero-mod (rank m 64))))
+ranked-requires : tie.Need-ranked-requires
+ranked-requires c κs = search needs
 
-has-requires : tie.Need-has-requires Inv-loop μ-loop
-has-requires c κs = search needs
-
-with-requires : tie.Need-with-requires Inv-loop μ-loop
-with-requires c κs =
-    let l = c .before .before .before in
-    let s = l .before .before in
-    omega (arith, l .loop .inv .2, select-mod 64 (s .args .allowed .0) (l .loop .b) (s .pre) (omega arith) .small)
-
-after-requires : tie.Need-after-requires Inv-loop μ-loop
-after-requires c κs =
-    let l = c .before .before .before in
-    let s = l .before .before in
-    (s .pre, omega (arith, l .loop .inv .2, select-mod 64 (s .args .allowed .0) (l .loop .b) (s .pre) (omega arith) .small))
-
-add-b : tie.Need-add-b Inv-loop μ-loop
-add-b c = search needs
-
-loop-less : tie.Need-loop-less Inv-loop μ-loop
-loop-less c = search needs
-
-loop-again : tie.Need-loop-again Inv-loop μ-loop
-loop-again c =
-    let l = c .before .before .before .before in
-    let a = l .before .before .args in
-    let u = a .self .0 in
-    let f = foldedTo 64 (a .allowed .0) in
-    let b = l .loop .b in
-    let h = c .before .before .has .ensures in
-    let next = c .after .ensures b (l .loop .inv .2) in
-    ⊎-elim
-    (λ w. (omega arith, image-take u f b (in-true u b h (w .0 .taken)) (l .loop .inv .1) (l .loop .inv .2) (ap (λ (x : Mask). x .0) (w .2) ∙ w .1 .ensures), next))
-    (λ w. (omega arith, image-skip u f b (in-false u b h (w .0 .left)) (l .loop .inv .1) (ap (λ (x : Mask). x .0) (w .1)), next))
-    (c .before .if1 .came)
-
-returns : tie.Need-returns Inv-loop μ-loop
-unfolding folded
+returns : tie.Need-returns
+unfolding folded wrapped rankedIn
 returns c =
-    let l = c .before in
-    let a = l .before .before .args in
-    let e : l .loop .b ≡ 64 = omega arith in
-    l .loop .inv .1 ∙ ap (image (a .self .0) (foldedTo 64 (a .allowed .0))) e
+    let s = c .before .before .before .before in
+    let u = s .args .self .0 in
+    let m = s .args .allowed .0 in
+    c .ranked .ensures
+    ∙ ap (rankedIn m)
+    (c .before .wrapped .ensures ∙ ap (wrapped (c .before .before .size .result)) (c .before .before .before .of .ensures)
+    ∙ ap (λ (w : ℕ). wrapped w u) (c .before .before .size .ensures))
+    ∙ image-ranked 64 u (foldedTo 64 m) (λ b. b) m (s .pre) (omega arith) (λ b. refl)
 
 pub folded-spec : {M : Type 1} → statement M
-folded-spec =
-    tie.close
-    (tie.spec
-    Inv-loop
-    μ-loop
-    lowest-requires
-    loop-holds
-    has-requires
-    with-requires
-    after-requires
-    add-b
-    loop-less
-    loop-again
-    returns)
+folded-spec = tie.close (tie.spec of-requires size-requires wrapped-requires ranked-requires returns)

@@ -11,14 +11,14 @@ use Rattle.rules.proofs.Masks.{one-shifted, ones-rank}
 use Rattle.nodemask.proofs.Mask.rank.Statement.{statement}
 use Rattle.nodemask.proofs.Mask.rank.Tie as tie
 
-cast-result : tie.Need-cast-result
-cast-result c = search needs
+cast-t3 : tie.Need-cast-t3
+cast-t3 c = search needs
 
-shl-result : tie.Need-shl-result
-shl-result c = search needs
+shl-t4 : tie.Need-shl-t4
+shl-t4 c = search needs
 
-sub-result : tie.Need-sub-result
-sub-result c = let n = c .before .args .node .0 in omega (arith, one-shifted 64 n (c .before .pre), pow-pos n)
+sub-t5 : tie.Need-sub-t5
+sub-t5 c = let n = c .before .args .node .0 in omega (arith, one-shifted 64 n (c .before .pre), pow-pos n)
 
 returns : tie.Need-returns
 returns c =
@@ -28,4 +28,4 @@ returns c =
     ap (λ (x : ℕ). ones (bitAnd m (x - 1))) (one-shifted 64 n (s .pre)) ∙ ones-rank m n
 
 pub rank-spec : {M : Type 1} → statement M
-rank-spec = tie.close (tie.spec cast-result shl-result sub-result returns)
+rank-spec = tie.close (tie.spec cast-t3 shl-t4 sub-t5 returns)

@@ -1,44 +1,39 @@
 -- `grant::grant_first` meets its contract.
 -- Assumes nothing.
-use Prim.Native.Nat.{_-_, _≤_}
+use Prim.Native.Nat.{_-_}
 use mathlib.Core.Path.{_≡_, refl, sym, ap, _∙_}
 use native.Mathlib.Omega.{arith}
 use borrow.Author.Needs.{needs}
-use Rattle.placement.specs.Grants.{pageFound, stepsOf, firstGiven}
-use Rattle.placement.proofs.Grants.{lowest-lt, given-here, given-past, given-end, given-start}
+use Rattle.placement.specs.Grants.{stepsOf, firstGiven}
+use Rattle.placement.proofs.Grants.{given-here, given-past, given-end}
 use Rattle.placement.proofs.grant.grant_first.Statement.{statement}
 use Rattle.placement.proofs.grant.grant_first.Tie as tie
 
 abbrev Inv-loop : tie.InvT-loop
-Inv-loop counts pages₀ holder order i₀ pages i =
-    (i ≤ order .len) × (pages ≡ pages₀)
-    × (firstGiven counts pages₀ (stepsOf (order .nodes) (order .cursors) 0 (order .len)) ≡ firstGiven counts pages₀ (stepsOf (order .nodes) (order .cursors) i (order .len - i)))
+Inv-loop counts pages₀ from holder order i₀ pages i =
+    (pages ≡ pages₀)
+    × (firstGiven counts pages₀ (stepsOf (order .nodes) (order .cursors) from (order .len - from)) ≡ firstGiven counts pages₀ (stepsOf (order .nodes) (order .cursors) i (order .len - i)))
 
 abbrev μ-loop : tie.MeasureT-loop
-μ-loop counts pages₀ holder order i₀ pages i = order .len - i
+μ-loop counts pages₀ from holder order i₀ pages i = order .len - i
 
 loop-holds : tie.Need-loop-holds Inv-loop μ-loop
-loop-holds c = (search needs, refl, given-start _ _ _ _ _)
+loop-holds c = (refl, refl)
 
-element-copy-out-t14 : tie.Need-element-copy-out-t14 Inv-loop μ-loop
-element-copy-out-t14 c = search needs
+element-copy-out-t15 : tie.Need-element-copy-out-t15 Inv-loop μ-loop
+element-copy-out-t15 c = search needs
 
 take-page-requires : tie.Need-take-page-requires Inv-loop μ-loop
 take-page-requires c κs =
     let v = c .before .before .before .loop .inv in
     let st = c .before .before .before .before .before .before in
-    (rw (v .1) (st .pre .0), st .pre .2 (c .before .before .before .loop .i) (c .before .before .loop-test .taken))
+    (rw (v .0) (st .pre .0), st .pre .2 (c .before .before .before .loop .i) (c .before .before .loop-test .taken))
 
 enum-known-found : tie.Need-enum-known-found Inv-loop μ-loop
 enum-known-found c = search needs
 
-cast-t17 : tie.Need-cast-t17 Inv-loop μ-loop
-cast-t17 c =
-    let st = c .before .before .before .before .before .before .before .before .before .before .before .before in
-    omega (arith, lowest-lt (st .args .counts .now) _ _ _ (sym (c .before .before .before .before .before .take-page .ensures .0) ∙ ap pageFound (c .before .found .given .1)), st .pre .0 .pages)
-
-element-copy-out-t21 : tie.Need-element-copy-out-t21 Inv-loop μ-loop
-element-copy-out-t21 c = search needs
+element-copy-out-t20 : tie.Need-element-copy-out-t20 Inv-loop μ-loop
+element-copy-out-t20 c = search needs
 
 same-length : tie.Need-same-length Inv-loop μ-loop
 same-length c = search needs
@@ -49,8 +44,8 @@ returns c =
     let v = c .before .before .before .before .before .before .before .before .before .before .loop .inv in
     let t = c .before .before .before .before .before .before .take-page .ensures in
     let e = c .before .before .found .given .1 in (
-      sym (v .2 ∙ given-here (a .counts .now) (a .pages .now) (a .t3 .nodes) (a .t3 .cursors) (c .before .before .before .before .before .before .before .before .before .before .loop .i) (a .t3 .len) (c .before .before .before .before .before .before .before .before .before .loop-test .taken) _ (rw (v .1, e) at (sym (t .0)))),
-      rw (v .1, e) at (t .1),
+      sym (v .1 ∙ given-here (a .counts .now) (a .pages .now) (a .t3 .nodes) (a .t3 .cursors) (c .before .before .before .before .before .before .before .before .before .before .loop .i) (a .t3 .len) (c .before .before .before .before .before .before .before .before .before .loop-test .taken) _ (rw (v .0, e) at (sym (t .0)))),
+      rw (v .0, e) at (t .1),
     )
 
 enum-told : tie.Need-enum-told Inv-loop μ-loop
@@ -68,9 +63,8 @@ loop-again c =
     let v = c .before .before .before .before .before .before .before .before .loop .inv in
     let t = c .before .before .before .before .take-page .ensures in
     let e = c .enum-told .given .1 in (
-      search needs,
-      rw (e, v .1) at (t .1),
-      v .2 ∙ given-past (a .counts .now) (a .pages .now) (a .t3 .nodes) (a .t3 .cursors) (c .before .before .before .before .before .before .before .before .loop .i) (a .t3 .len) (c .before .before .before .before .before .before .before .loop-test .taken) (rw (v .1, e) at (sym (t .0))),
+      rw (e, v .0) at (t .1),
+      v .1 ∙ given-past (a .counts .now) (a .pages .now) (a .t3 .nodes) (a .t3 .cursors) (c .before .before .before .before .before .before .before .before .loop .i) (a .t3 .len) (c .before .before .before .before .before .before .before .loop-test .taken) (rw (v .0, e) at (sym (t .0))),
     )
 
 same-length-2 : tie.Need-same-length-2 Inv-loop μ-loop
@@ -79,7 +73,7 @@ same-length-2 c = search needs
 returns-2 : tie.Need-returns-2 Inv-loop μ-loop
 returns-2 c =
     let v = c .before .loop .inv in
-    (sym (v .2 ∙ given-end _ _ _ _ _ _ (c .loop-test .left)), v .1)
+    (sym (v .1 ∙ given-end _ _ _ _ _ _ (c .loop-test .left)), v .0)
 
 pub grant-first-spec : {M : Type 1} → statement M
 grant-first-spec =
@@ -88,11 +82,10 @@ grant-first-spec =
     Inv-loop
     μ-loop
     loop-holds
-    element-copy-out-t14
+    element-copy-out-t15
     take-page-requires
     enum-known-found
-    cast-t17
-    element-copy-out-t21
+    element-copy-out-t20
     same-length
     returns
     enum-told

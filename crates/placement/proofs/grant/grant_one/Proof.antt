@@ -1,9 +1,7 @@
 -- `grant::grant_one` meets its contract.
 -- Assumes nothing.
 use mathlib.Core.Path.{sym, ap, _∙_}
-use native.Mathlib.Omega.{arith}
 use Rattle.placement.specs.Grants.{pageFound}
-use Rattle.placement.proofs.Grants.{lowest-lt}
 use borrow.Author.Needs.{needs}
 use Rattle.placement.proofs.grant.grant_one.Statement.{statement}
 use Rattle.placement.proofs.grant.grant_one.Tie as tie
@@ -13,9 +11,6 @@ take-page-requires c κs = search needs
 
 enum-known-found : tie.Need-enum-known-found
 enum-known-found c = search needs
-
-cast-t11 : tie.Need-cast-t11
-cast-t11 c = omega (arith, lowest-lt (c .before .before .before .before .before .before .before .before .before .args .counts .now) _ _ _ (sym (c .before .before .before .before .before .take-page .ensures .0) ∙ ap pageFound (c .before .found .given .1)), c .before .before .before .before .before .before .before .before .before .pre .0 .pages)
 
 enum-told : tie.Need-enum-told
 enum-told c = search needs
@@ -40,7 +35,6 @@ grant-one-spec =
     (tie.spec
     take-page-requires
     enum-known-found
-    cast-t11
     enum-told
     same-length
     returns

@@ -5,6 +5,7 @@ use native.Mathlib.Omega.{arith}
 use native.Mathlib.Nat.{add-sub-cancel-left}
 use lib.ListN.{getD}
 use borrow.Author.Needs.{needs}
+use Rattle.pages.specs.FirstZero.{offsetOf}
 use Rattle.placement.proofs.Grants.{node-end, Taken, taken, Within}
 use Rattle.placement.proofs.grant.take_page.Statement.{statement}
 use Rattle.placement.proofs.grant.take_page.Tie as tie
@@ -49,14 +50,15 @@ enum-known-found c = search needs
 told : (c : tie.After-pick) →
     let a = c .before .before .before .before .before .before .before .before .args in
     let s = c .before .before .before .before .before .first-page .result .0 in
-    Taken (a .counts .now) (a .pages .now) (a .node .0) s (s + getD (a .counts .now) (a .node .0) 0 - s) (a .holder) (c .pick .result) (c .pick .last .0)
+    Taken (a .counts .now) (a .pages .now) (a .node .0) s (s + getD (a .counts .now) (a .node .0) 0 - s)
+    (a .holder) (offsetOf (c .pick .result)) (c .pick .last .0)
 told c =
     let st = c .before .before .before .before .before .before .before .before in
     taken _ _ _ _ _ _ _ _ (st .pre .0 .fits) (c .before .before .before .before .before .first-page .ensures) (add-sub-cancel-left _ _) (c .pick .ensures .0) (c .pick .ensures .1)
 
-add-t19 : tie.Need-add-t19
+after-requires : tie.Need-after-requires
 unfolding Within
-add-t19 c =
+after-requires c κs =
     let st = c .before .before .before .before .before .before .before .before .before .before .before .before .before in
     let t = told (c .before .before .before .before .before) in
     omega (
@@ -75,9 +77,9 @@ same-length c = search needs
 
 returns : tie.Need-returns
 returns c =
-    let t = told (c .before .before .before .before .before) in
-    let e = c .before .found .given .1 in
-    (rw e at (t .answer), rw e at (t .table))
+    let t = told (c .before .before .before .before .before .before) in
+    let e = c .before .before .found .given .1 in
+    (rw (c .after .ensures) (rw e at (t .answer)), rw (c .after .ensures) (rw e at (t .table)))
 
 same-length-2 : tie.Need-same-length-2
 same-length-2 c = search needs
@@ -104,7 +106,7 @@ take-page-spec =
     part-pick-end
     pick-requires
     enum-known-found
-    add-t19
+    after-requires
     enum-told
     same-length
     returns

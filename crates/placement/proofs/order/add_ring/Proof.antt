@@ -1,42 +1,52 @@
--- `order::add_ring` meets its contract.
+-- `order::add_ring` meets its contract. The loop's invariant: the steps put and those to come are all.
 -- Assumes nothing.
-use Prim.Native.Nat.{_+_, _-_, _%_, _≤_, _<_}
+use Prim.Native.Nat.{_+_, _-_, _≤_}
 use mathlib.Core.Path.{_≡_, sym, ap, _∙_}
 use mathlib.Core.List.{List, _++_}
 use native.Mathlib.Nat.{mod-lt}
 use native.Mathlib.Omega.{arith}
 use borrow.Author.Needs.{needs}
+use lib.ListN.{length}
 use Rattle.rules.specs.SearchOrder.{Try}
+use Rattle.placement.specs.Grants.{stepsOf}
 use Rattle.placement.specs.Orders.{stepsIn, triedIn, ringSteps}
 use Rattle.placement.proofs.Orders.{tried-next, ring-next, ring-end, ring-start}
 use Rattle.placement.proofs.order.add_ring.Statement.{statement}
 use Rattle.placement.proofs.order.add_ring.Tie as tie
 
 abbrev Inv-loop : tie.InvT-loop
-Inv-loop nodes limit places len cursor out₀ i₀ out i =
-    (i ≤ len) × (out .len ≤ i + 1)
-    × (stepsIn out ++ triedIn nodes (limit .0) (ringSteps places len (cursor + i) (len - i)) ≡ stepsIn out₀ ++ triedIn nodes (limit .0) (ringSteps places len cursor len))
+Inv-loop nodes limit places len cursor steps₀ cursors₀ at₀ i₀ steps cursors at i =
+    (i ≤ len) × (length steps ≡ 64) × (length cursors ≡ 64) × (at ≤ i + 1)
+    × (stepsOf steps cursors 0 at ++ triedIn nodes (limit .0) (ringSteps places len (cursor + i) (len - i)) ≡ stepsOf steps₀ cursors₀ 0 at₀ ++ triedIn nodes (limit .0) (ringSteps places len cursor len))
 
 abbrev μ-loop : tie.MeasureT-loop
-μ-loop nodes limit places len cursor out₀ i₀ out i = len - i
+μ-loop nodes limit places len cursor steps₀ cursors₀ at₀ i₀ steps cursors at i = len - i
 
 loop-holds : tie.Need-loop-holds Inv-loop μ-loop
-loop-holds c = (search needs, search needs, ring-start (c .args .places) (c .args .len) (c .args .cursor) (c .args .nodes) (c .args .limit .0) (stepsIn (c .args .order)))
+loop-holds c =
+    let a = c .before .before .args in
+    (search needs, search needs, search needs, search needs, ring-start (a .places) (a .len) (a .cursor) (a .nodes) (a .limit .0) (stepsIn (a .order)))
 
-add-t11 : tie.Need-add-t11 Inv-loop μ-loop
-add-t11 c = search needs
+add-t14 : tie.Need-add-t14 Inv-loop μ-loop
+add-t14 c = search needs
 
-rem-t12 : tie.Need-rem-t12 Inv-loop μ-loop
-rem-t12 c = search needs
+rem-t15 : tie.Need-rem-t15 Inv-loop μ-loop
+rem-t15 c = search needs
 
 node-at-requires : tie.Need-node-at-requires Inv-loop μ-loop
-node-at-requires c κs = let small : (c .before .before .args .cursor + c .before .loop .i) % c .before .before .args .len < c .before .before .args .len = mod-lt (c .before .before .args .cursor + c .before .loop .i) (omega arith) in omega arith
+node-at-requires c κs =
+    let a = c .before .before .before .before .args in
+    let at = a .cursor + c .before .loop .i in
+    omega (arith, mod-lt at {m = a .len} (omega arith))
 
 cursor-at-requires : tie.Need-cursor-at-requires Inv-loop μ-loop
-cursor-at-requires c κs = let small : (c .before .before .before .args .cursor + c .before .before .loop .i) % c .before .before .before .args .len < c .before .before .before .args .len = mod-lt (c .before .before .before .args .cursor + c .before .before .loop .i) (omega arith) in omega arith
+cursor-at-requires c κs =
+    let a = c .before .before .before .before .before .before .before .args in
+    let at = a .cursor + c .before .before .before .before .loop .i in
+    omega (arith, mod-lt at {m = a .len} (omega arith))
 
-push-requires : tie.Need-push-requires Inv-loop μ-loop
-push-requires c κs = search needs
+put-requires : tie.Need-put-requires Inv-loop μ-loop
+put-requires c κs = search needs
 
 add-i : tie.Need-add-i Inv-loop μ-loop
 add-i c = search needs
@@ -46,18 +56,22 @@ loop-less c = search needs
 
 loop-again : tie.Need-loop-again Inv-loop μ-loop
 loop-again c =
-    let a = c .before .before .before .before .before .args in
-    let l = c .before .before .before .before .loop in (
+    let a = c .before .before .before .before .before .before .before .before .before .args in
+    let l = c .before .before .before .before .before .before .loop in
+    let p = c .put .ensures in
+    let done = stepsOf (l .steps) (l .cursors) 0 (l .at) in (
       search needs,
-      omega (arith, c .push .ensures .0),
-      rw (c .push .ensures .1, c .before .before .node-at .ensures, c .before .cursor-at .ensures)
-          (tried-next (a .nodes) (a .limit .0) (stepsIn (l .out)) _ _ ∙ ap (λ (ss : List Try). stepsIn (l .out) ++ triedIn (a .nodes) (a .limit .0) ss) (sym (ring-next (a .places) (a .len) (a .cursor) (l .i) (c .before .before .before .loop-test .taken))) ∙ l .inv .2),
+      p .nodes-64,
+      p .cursors-64,
+      omega (arith, p .short),
+      rw (p .held, c .before .before .before .before .node-at .ensures, c .before .cursor-at .ensures)
+          (tried-next (a .nodes) (a .limit .0) done _ _ ∙ ap (λ (ss : List Try). done ++ triedIn (a .nodes) (a .limit .0) ss) (sym (ring-next (a .places) (a .len) (a .cursor) (l .i) (c .before .before .before .before .before .loop-test .taken))) ∙ l .inv .4),
     )
 
 returns : tie.Need-returns Inv-loop μ-loop
 returns c =
     let l = c .before .loop in
-    (omega arith, sym (ring-end _ _ _ _ _ _ _ (c .loop-test .left)) ∙ l .inv .2)
+    (omega arith, sym (ring-end _ _ _ _ _ _ _ (c .loop-test .left)) ∙ l .inv .4)
 
 pub add-ring-spec : {M : Type 1} → statement M
 add-ring-spec =
@@ -66,11 +80,11 @@ add-ring-spec =
     Inv-loop
     μ-loop
     loop-holds
-    add-t11
-    rem-t12
+    add-t14
+    rem-t15
     node-at-requires
     cursor-at-requires
-    push-requires
+    put-requires
     add-i
     loop-less
     loop-again

@@ -13,14 +13,18 @@ use Rattle.records.proofs.words.pack.Statement.{statement}
 use Rattle.records.proofs.words.pack.Tie as tie
 
 abbrev Inv-loop : tie.InvT-loop
-Inv-loop from places word₀ i₀ word i = (i ≤ 8) × (length places ≡ 16) × (word ≡ fromBytes (drop i (take 8 (drop from places))))
+Inv-loop places start word₀ i₀ word i = (i ≤ 8) × (length places ≡ 16) × (word ≡ fromBytes (drop i (take 8 (drop start places))))
 
 abbrev μ-loop : tie.MeasureT-loop
-μ-loop from places word₀ i₀ word i = i
+μ-loop places start word₀ i₀ word i = i
+
+cast-start : tie.Need-cast-start Inv-loop μ-loop
+cast-start c = search needs
 
 loop-holds : tie.Need-loop-holds Inv-loop μ-loop
 unfolding fromBytes
-loop-holds c = let xs = take 8 (drop (c .args .from) (c .args .t1)) in
+loop-holds c = let a = c .before .args in
+    let xs = take 8 (drop (a .from .0) (a .t1)) in
     let l : length xs ≤ 8 = simp length-take (omega arith) in
     (search needs, search needs, ap fromBytes (sym (drop-of-length-le xs l)))
 
@@ -41,18 +45,18 @@ loop-less c = omega arith
 
 loop-again : tie.Need-loop-again Inv-loop μ-loop
 loop-again c = let v = c .before .loop .inv in
-    let a = c .before .before .args in
+    let a = c .before .before .before .args in
     let bytes : (k : ℕ) → Fits w8 (getD (a .t1) k 0) = λ k. search needs in (
       omega arith,
       v .1,
-      pack-step (a .t1) (a .from) (c .before .loop .i) (c .before .loop .i - 1) (c .before .loop .word)
-          (λ k. bytes k .fits) (v .1) (c .before .before .pre) (omega arith) (v .0) (v .2),
+      pack-step (a .t1) (a .from .0) (c .before .loop .i) (c .before .loop .i - 1) (c .before .loop .word)
+          (λ k. bytes k .fits) (v .1) (c .before .before .before .pre) (omega arith) (v .0) (v .2),
     )
 
 returns : tie.Need-returns Inv-loop μ-loop
-returns c = let a = c .before .before .args in
+returns c = let a = c .before .before .before .args in
     let e : c .before .loop .i ≡ 0 = omega arith in
-    c .before .loop .inv .2 ∙ ap (λ (k : ℕ). fromBytes (drop k (take 8 (drop (a .from) (a .t1))))) e
+    c .before .loop .inv .2 ∙ ap (λ (k : ℕ). fromBytes (drop k (take 8 (drop (a .from .0) (a .t1))))) e
 
 pub pack-spec : {M : Type 1} → statement M
 pack-spec =
@@ -60,6 +64,7 @@ pack-spec =
     (tie.spec
     Inv-loop
     μ-loop
+    cast-start
     loop-holds
     sub-i
     add-word

@@ -1,10 +1,10 @@
 -- `calls_ok` meets its contract. The loop: the tests made so far and those to come are the tests of all calls.
 -- Assumes nothing.
 use Prim.Native.Nat.{_-_, _≤_}
-use mathlib.Core.Path.{ap, _∙_}
+use mathlib.Core.Path.{sym, ap, _∙_}
 use borrow.Author.Needs.{needs}
 use Rattle.replay.specs.Encoding.{callCount, callOk}
-use Rattle.replay.proofs.Words.{Tested, none-tested, one-tested, all-tested, part-words}
+use Rattle.replay.proofs.Words.{Tested, cut-short, none-tested, one-tested, all-tested, part-words}
 use Rattle.replay.proofs.encoding.calls_ok.Statement.{statement}
 use Rattle.replay.proofs.encoding.calls_ok.Tie as tie
 
@@ -14,8 +14,11 @@ Inv-loop calls ok₀ i₀ ok i = (i ≤ callCount calls) × Tested calls i ok
 abbrev μ-loop : tie.MeasureT-loop
 μ-loop calls ok₀ i₀ ok i = callCount calls - i
 
+returns : tie.Need-returns Inv-loop μ-loop
+returns c = sym (cut-short _ (c .if1 .taken))
+
 loop-holds : tie.Need-loop-holds Inv-loop μ-loop
-loop-holds c = (search needs, none-tested _)
+loop-holds c = (search needs, none-tested _ (c .if1 .left))
 
 mul-start : tie.Need-mul-start Inv-loop μ-loop
 mul-start c = search needs
@@ -49,8 +52,8 @@ loop-again c =
     let l = c .before .before .before .loop in
     (search needs, one-tested _ (l .i) (l .ok) _ (c .before .before .loop-test .taken) (c .call-ok .ensures ∙ ap callOk (part-words _ (l .i))) (l .inv .1))
 
-returns : tie.Need-returns Inv-loop μ-loop
-returns c = all-tested _ _ _ (c .loop-test .left) (c .before .loop .inv .1)
+returns-2 : tie.Need-returns-2 Inv-loop μ-loop
+returns-2 c = all-tested _ _ _ (c .loop-test .left) (c .before .loop .inv .1)
 
 pub calls-ok-spec : {M : Type 1} → statement M
 calls-ok-spec =
@@ -58,6 +61,7 @@ calls-ok-spec =
     (tie.spec
     Inv-loop
     μ-loop
+    returns
     loop-holds
     mul-start
     add-end
@@ -69,4 +73,4 @@ calls-ok-spec =
     add-i
     loop-less
     loop-again
-    returns)
+    returns-2)

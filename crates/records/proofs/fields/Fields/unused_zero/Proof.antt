@@ -6,9 +6,6 @@ use borrow.Author.Needs.{needs}
 use Rattle.records.proofs.fields.Fields.unused_zero.Statement.{statement}
 use Rattle.records.proofs.fields.Fields.unused_zero.Tie as tie
 
-cast-zero-from : tie.Need-cast-zero-from
-cast-zero-from c = search needs
-
 zero-from-requires : tie.Need-zero-from-requires
 zero-from-requires c κs = search needs
 
@@ -17,4 +14,4 @@ unfolding unusedZero recordOf
 returns c = rw (c .zero-from .ensures)
 
 pub unused-zero-spec : {M : Type 1} → statement M
-unused-zero-spec = tie.close (tie.spec cast-zero-from zero-from-requires returns)
+unused-zero-spec = tie.close (tie.spec zero-from-requires returns)

@@ -1,0 +1,51 @@
+//! A list of calls of sixteen words each, on tables tested once.
+
+use crate::fast::{clear_at, install_at, rebind_at, refused, release_at, request_at, Jobs, Out};
+use crate::map::Map;
+
+/// Makes one call.
+fn call(map: &mut Map, pages: &mut [u8], jobs: &mut Jobs, call: &[u64; 16]) -> Out {
+    let (job, nodes) = (call[1] as usize, map.nodes);
+    match call[0] {
+        1 => return request_at(map, pages, jobs, job, call[2] as usize),
+        2 => return release_at(map.starts, nodes, pages, jobs.len(), job, call[2] as usize),
+        _ => {}
+    }
+    let Some(words) = jobs.get_mut(job) else { return refused(2) };
+    match call[0] {
+        3 => rebind_at(nodes, words, call[2]),
+        4 => {
+            let used = if call[5] < 16 { (1 << (8 * call[5])) - 1 } else { u128::MAX };
+            let places = u128::from(call[8]) | u128::from(call[9]) << 64;
+            install_at(nodes, words, call[2], call[3], call[4], call[5], places & used)
+        }
+        _ => clear_at(words),
+    }
+}
+
+/// Runs the list; gives how many calls ran.
+pub fn replay(
+    counts: &[u32],
+    cpus: &[u8],
+    distances: &[u8],
+    pages: &mut [u8],
+    jobs: &mut [u64],
+    calls: &[u64],
+    answers: &mut [u64],
+) -> Result<usize, u8> {
+    let mut starts = [0; 65];
+    let mut map = Map::new(&mut starts, counts, cpus, distances, pages.len(), jobs.len()).ok_or(1)?;
+    let (calls, rest) = calls.as_chunks();
+    let bad = |call: &[u64; 16]| call[0].wrapping_sub(1) > 4 || (call[0] == 4 && call[5] > 64);
+    if !rest.is_empty() || calls.iter().any(bad) {
+        return Err(13);
+    }
+    if answers.len() < calls.len() {
+        return Err(11);
+    }
+    let jobs = jobs.as_chunks_mut().0;
+    for (words, answer) in calls.iter().zip(answers.iter_mut()) {
+        *answer = call(&mut map, pages, jobs, words).word();
+    }
+    Ok(calls.len())
+}

@@ -1,0 +1,53 @@
+-- Demand 3 needs its premise: of a list with a granted rebind or install of the job in it, the claim can be false. (Files are checked by
+-- name, and what they use first: so a premise that bars too little is refused at `premise-needed`, before the proof of the demand.)
+-- Assumes nothing.
+use Prim.Native.Nat.{ℕ, _≤_}
+use mathlib.Core.Path.{_≡_, refl}
+use mathlib.Core.Bool.{Bool, true, false, not, _&&_, false≢true}
+use mathlib.Core.List.{List, [], _∷_}
+use native.Mathlib.Omega.{arith}
+use borrow.Author.Tests.{eqb-true}
+use lib.ListN.{length}
+use lib.Dec.{eqb}
+use Rattle.rules.specs.Basics.{all, Each}
+use Rattle.rules.specs.Machine.{Machine}
+use Rattle.rules.specs.Calls.{Tables}
+use Rattle.rules.specs.Book.{Call, install, rebind, step}
+use Rattle.rules.specs.Examples.{machineA}
+use Rattle.rules.proofs.AllRight.{is-true}
+use Rattle.rules.proofs.Lists.{both-true}
+use Rattle.fairness.specs.Demand3.{Grant, setsPolicy, isRefused, PolicyKept, isOpen, row, timesNode, Fair}
+use Rattle.fairness.specs.Examples.{openAll, pair, after, starves, barred, spoils, premise-needed}
+
+-- a test that all pass holds of each
+all-each : (p : Grant → Bool) (gs : List Grant) → all p gs ≡ true → Each (λ g. p g ≡ true) gs
+unfolding all Each
+all-each p [] e = tt
+all-each p (g ∷ gs) e = let b = both-true {a = p g} {b = all p gs} e in (b .0, all-each p gs (b .1))
+
+-- a list in which node 3 starves is not fair to the job
+pub unfair : (c : Call) → starves c ≡ true → Fair machineA pair (after c) 0 → ⊥
+unfolding openAll
+unfair c e f =
+    let gs = row machineA 0 pair (after c) 0 2 in
+    let open-each : Grant → Bool = λ g. isOpen machineA (g .before) 0 3 in
+    let a = both-true {a = eqb (length gs) 2 && all open-each gs} {b = eqb (timesNode machineA 3 gs) 0} e in
+    let b = both-true {a = eqb (length gs) 2} {b = all open-each gs} (a .0) in
+    let l : 1 ≤ timesNode machineA 3 gs =
+    f .interleave refl 1 0 (eqb-true (length gs) 2 (b .0)) .at-least 3 (omega arith) refl (all-each open-each gs (b .1)) in
+    omega (arith, eqb-true (timesNode machineA 3 gs) 0 (a .1))
+
+-- and a list with a barred call does not keep the policy
+pub not-kept : (c : Call) → barred c ≡ true → PolicyKept machineA 0 pair (after c) → ⊥
+unfolding PolicyKept
+not-kept c e u =
+    let a = both-true {a = setsPolicy 0 c} {b = not (isRefused (step machineA pair c .answer))} e in
+    let r : not true ≡ true = rw (u .0 (a .0)) at (a .1) in
+    false≢true r
+
+-- so the claim without its premise is false
+pub without-premise : ((m : Machine) (t : Tables) (cs : List Call) (j : ℕ) → Fair m t cs j) → ⊥
+without-premise f =
+    let c = rebind 0 11 in
+    let a = both-true {a = spoils c} {b = spoils (install 0 3 0 2 [])} (is-true _ premise-needed) in
+    unfair c (both-true {a = starves c} {b = barred c} (a .0) .0) (f machineA pair (after c) 0)

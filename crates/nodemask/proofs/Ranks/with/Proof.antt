@@ -1,0 +1,24 @@
+-- `Ranks::with` meets its contract: `m | (1 << r)` is m with rank r.
+-- Assumes nothing.
+use mathlib.Core.Path.{ap, _∙_}
+use borrow.Author.Needs.{needs}
+use lib.Bits.{bitOr}
+use Rattle.rules.proofs.Masks.{one-shifted, or-one}
+use Rattle.nodemask.proofs.Ranks.with.Statement.{statement}
+use Rattle.nodemask.proofs.Ranks.with.Tie as tie
+
+cast-t3 : tie.Need-cast-t3
+cast-t3 c = search needs
+
+shl-t4 : tie.Need-shl-t4
+shl-t4 c = search needs
+
+returns : tie.Need-returns
+returns c =
+    let s = c .before .before in
+    let m = s .args .self .0 in
+    let n = s .args .rank .0 in
+    ap (bitOr m) (one-shifted 64 n (s .pre)) ∙ or-one m n
+
+pub with-spec : {M : Type 1} → statement M
+with-spec = tie.close (tie.spec cast-t3 shl-t4 returns)

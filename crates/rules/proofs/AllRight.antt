@@ -1,0 +1,23 @@
+-- Each example of the two tables is right. (Files are checked by name, and what they use first: so a rule that breaks an example is refused
+-- at the table, which computes, before any proof.)
+-- Assumes nothing.
+use mathlib.Core.Path.{_≡_, refl}
+use mathlib.Core.Bool.{Bool, true, false}
+use mathlib.Core.List.{_++_}
+use lib.Dec.{T}
+use Rattle.rules.specs.Examples as marked
+use Rattle.rules.specs.MoreExamples as more
+use Rattle.rules.proofs.Lists.{_∈_, all-true}
+
+-- a computed test that holds
+pub is-true : (b : Bool) → T b → b ≡ true
+is-true true t = refl
+is-true false t = absurd t
+
+-- "Those marked T are proved together"
+pub marked-right : {e : marked.Example} → e ∈ marked.table → marked.right e ≡ true
+marked-right h = all-true marked.right (is-true _ marked.all-right) h
+
+-- the examples not marked T, "Easy ways to get it wrong", and one for each rule that those marked T leave open
+pub more-right : {e : more.Example} → e ∈ (more.texts ++ more.runs ++ more.refusals ++ more.records ++ more.journals) → more.right e ≡ true
+more-right h = all-true more.right (is-true _ more.all-right) h

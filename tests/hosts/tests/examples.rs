@@ -1,0 +1,93 @@
+//! Every example of document 01 on the linked library, the program and the second implementation, and beside what 01 prints.
+
+use hosts::{answer_word, journal_by_both, read_by_both, words, write_by_both, Both, LentTables, Seen};
+use reference::calls::Tables;
+use reference::examples::{all, texts, Example, Step, TextExample, ANSWERS_ON_A, JOURNAL_ON_A};
+use reference::journal::RECORD;
+use reference::program::output_of;
+
+/// The journal program, named by SPIRERIVET_PLACER.
+fn placer() -> String {
+    let placer = std::env::var("SPIRERIVET_PLACER").expect("set SPIRERIVET_PLACER to the journal program's path");
+    assert!(std::path::Path::new(&placer).is_file(), "there is no program {placer}");
+    placer
+}
+
+/// The mask as both write it.
+fn written(told: &str, nodes: usize, mask: u64) -> String {
+    String::from_utf8(write_by_both(told, nodes, mask, 130).expect("there is room")).expect("plain letters")
+}
+
+/// Call by call: both answer as 01 does and leave the same tables, with 01's values in job 0's record; gives the last tables.
+fn by_calls(example: &Example, seen: &mut Seen) -> Tables {
+    let mut both = Both::new(example.start.counts.len(), example.start.clone());
+    for (turn, step) in example.steps.iter().enumerate() {
+        let told = format!("{}: step {turn}", example.name);
+        if let Step::Call(call, answer) = step {
+            assert_eq!(both.call(call, seen), Ok(*answer), "{told}");
+        }
+        let jobs = both.lent.jobs.now();
+        match step {
+            Step::Call(..) => {}
+            Step::Cursor(field) => assert_eq!(jobs[0] >> 24, *field, "{told}"),
+            Step::Effective(mask, text) => {
+                assert_eq!(jobs[3], *mask, "{told}");
+                assert_eq!(written(&told, both.nodes, jobs[3]), *text, "{told}");
+            }
+            Step::Record(words) => assert_eq!(jobs[..6], *words, "{told}"),
+        }
+    }
+    both.tables
+}
+
+/// As one list of calls: the library's replay gives the same answers and tables.
+fn by_replay(example: &Example, after: &Tables) {
+    let list: Vec<u64> = example.calls().iter().flat_map(|(call, _)| words(call).expect("a call of a list")).collect();
+    let wanted: Vec<u64> = example.calls().iter().map(|(_, answer)| answer_word(*answer)).collect();
+    let mut answers = vec![0; wanted.len()];
+    let mut lent = LentTables::new(&example.start);
+    let LentTables { counts, cpus, distances, pages, jobs } = &mut lent;
+    let (pages, jobs) = (pages.now_mut(), jobs.now_mut());
+    let ran = spirerivet::replay(counts.now(), cpus.now(), distances.now(), pages, jobs, &list, &mut answers);
+    assert_eq!(ran, Ok(wanted.len()), "{}: replay", example.name);
+    assert_eq!(answers, wanted, "{}: replay", example.name);
+    assert_eq!(lent.difference(after), None, "{}: replay", example.name);
+}
+
+/// As a journal: the program, the library's journal call and the second implementation all write 01's answers.
+fn by_journal(placer: &str, told: &str, journal: &[u8], answers: &[u8]) {
+    assert_eq!(output_of(placer, journal).as_deref(), Ok(answers), "{told}: the program");
+    let found = journal_by_both(told, journal, journal.len() / RECORD + 1);
+    assert_eq!(found.as_deref(), Ok(answers), "{told}: the journal call");
+}
+
+/// Read by both as 01 reads it, and written back by both.
+fn by_text(example: TextExample) {
+    let TextExample { nodes, allowed, text, outcome } = example;
+    assert_eq!(read_by_both(text, nodes, allowed, text.as_bytes()), outcome.map(|(mask, _)| mask), "{text}");
+    if let Ok((mask, back)) = outcome {
+        assert_eq!(written(text, nodes, mask), back, "{text}");
+        assert_eq!(read_by_both(back, nodes, 0, back.as_bytes()), Ok(mask), "{back}");
+    }
+}
+
+#[test]
+fn every_example_of_document_01() {
+    let placer = placer();
+    let mut seen = Seen::default();
+    let mut journals = 0;
+    for example in all() {
+        let after = by_calls(&example, &mut seen);
+        by_replay(&example, &after);
+        if let Some((journal, answers)) = example.journal() {
+            by_journal(&placer, &example.name, &journal, &answers);
+            journals += 1;
+        }
+    }
+    by_journal(&placer, "journal on A", &JOURNAL_ON_A, &ANSWERS_ON_A);
+    texts().into_iter().for_each(by_text);
+    println!("{} examples of calls, {journals} of them as journals; {} texts; {seen:?}", all().len(), texts().len());
+    // Only node 63 does not fit a journal: five examples.
+    assert_eq!(journals, all().len() - 5);
+    assert!(seen.granted > 100 && seen.released > 5 && seen.refused[6] == 5 && seen.refused[8] > 15, "{seen:?}");
+}
