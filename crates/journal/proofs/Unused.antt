@@ -209,14 +209,22 @@ module _ (len : ℕ) (bs : List ℕ) (l : recordSize ≤ length bs) where
       (λ i h b. four-pass (λ i. mayBe install′ len i b) refl refl refl refl i h)
       (λ i h k b. rw (le-ltb i 3 (omega arith), ne-eqb i 3 (λ e. omega arith), lt-leb 5 i (omega arith), lt-leb 16 i (omega arith)))
       (λ i h k b. rw (le-ltb i 3 (omega arith), ne-eqb i 3 (λ e. omega arith), le-leb 5 i (omega arith)) (listed i b (omega arith) (leb i 15) refl))
-      (λ i h k b. rw (le-ltb i 3 (omega arith), ne-eqb i 3 (λ e. omega arith), le-leb 5 i (omega arith), lt-leb i 15 (omega arith), le-leb 16 i (omega arith), le-ltb i (16 + len) (omega arith)))
+      (λ i h k b. rw (
+        le-ltb i 3 (omega arith),
+        ne-eqb i 3 (λ e. omega arith),
+        le-leb 5 i (omega arith),
+        lt-leb i 15 (omega arith),
+        le-leb 16 i (omega arith),
+        le-ltb i (16 + len) (omega arith),
+      ))
       ∙ ap (λ (t : Bool). zeroed 4 1 bs && t) at)
     where
       last : (b : Bool) → leb len 16 ≡ b → zeroed (4 + 1 + (27 - (16 - len))) (16 - len) bs ≡ zeroed (16 + len) (16 - len) bs
       last true e = ap (λ (x : ℕ). zeroed x (16 - len) bs) (omega (arith, leb-true len 16 e))
       last false e =
           let z : 16 - len ≡ 0 = omega (arith, leb-false len 16 e) in
-          ap (λ (x : ℕ). zeroed (4 + 1 + (27 - (16 - len))) x bs) z ∙ zeroed-none _ bs ∙ sym (zeroed-none (16 + len) bs) ∙ ap (λ (x : ℕ). zeroed (16 + len) x bs) (sym z)
+          ap (λ (x : ℕ). zeroed (4 + 1 + (27 - (16 - len))) x bs) z ∙ zeroed-none _ bs
+          ∙ sym (zeroed-none (16 + len) bs) ∙ ap (λ (x : ℕ). zeroed (16 + len) x bs) (sym z)
 
       listed : (i b : ℕ) → i < 16 + len → (t : Bool) → leb i 15 ≡ t → (t || (leb 16 i && ltb i (16 + len)) || eqb b 0) ≡ true
       listed i b h true e = refl

@@ -4,7 +4,8 @@ use mathlib.Core.Path.{_≡_, refl, sym, ap, ap₂, _∙_, subst}
 use mathlib.Core.Logic.{_≢_, _⊎_, inl, inr, ⊎-elim}
 use mathlib.Core.Bool.{Bool, true, false, not, _&&_, _||_}
 use Prim.Native.Nat.{ℕ, zero, suc, _+_, _-_, _*_, _/_, _%_, _^_, _≤_, _<_, zero-le, max}
-use native.Mathlib.Nat.{le-refl, mod-lt, zero-lt-suc, zero-mul, one-mul, div-one, pow-suc, sub-add-cancel, add-mul-div-right, add-mul-mod-self-right, mod-eq-of-lt, lt-irrefl, div-add-mod', le-of-suc-le-suc, not-suc-le-zero, add-mul}
+use native.Mathlib.Nat.{le-refl, mod-lt, zero-lt-suc, zero-mul, one-mul, div-one, pow-suc, sub-add-cancel, add-mul-div-right, add-mul-mod-self-right}
+use native.Mathlib.Nat.{mod-eq-of-lt, lt-irrefl, div-add-mod', le-of-suc-le-suc, not-suc-le-zero, add-mul}
 use native.Mathlib.Numerals.{lt-of-le-of-ne}
 use native.Mathlib.Decide.{ℕ-discrete}
 use native.Mathlib.Omega.{arith}
@@ -15,7 +16,18 @@ use lib.Dec.{eqb, leb}
 use lib.Pow.{pow-pos}
 use Rattle.rules.specs.Masks.{bit, has, rank, select, lowest, insert, image, maskOf, allNodes}
 use Rattle.rules.proofs.Lists.{both-true}
-use Rattle.rules.proofs.Masks.{bit-lt, bit-cases, bit-above, bit-suc, bit-or, bit-and, bit-insert, bit-one, bit-other, bit-below, bit-shift, ext, rank-step, rank-lt, IsNode, select-at, select-is, size-pos, image-has, image-only, image-lt, below-width, has-or, maskOf-is, onto-lt}
+use Rattle.rules.proofs.Masks.{bit-lt, bit-cases, bit-above, bit-suc, bit-or, bit-and, bit-insert, bit-one, bit-other, bit-below, bit-shift, ext}
+use Rattle.rules.proofs.Masks.{rank-step, rank-lt, IsNode, select-at, select-is, size-pos}
+use Rattle.rules.proofs.Masks.{image-has, image-only, image-lt, below-width, has-or, maskOf-is, onto-lt}
+
+-- two bits are the same where each is 1 if the other is
+bit-same : (a b n : ℕ) → (bit a n ≡ 1 → bit b n ≡ 1) → (bit b n ≡ 1 → bit a n ≡ 1) → bit a n ≡ bit b n
+bit-same a b n f g = go (bit-cases a n) (bit-cases b n)
+  where
+    go : (bit a n ≡ 0) ⊎ (bit a n ≡ 1) → (bit b n ≡ 0) ⊎ (bit b n ≡ 1) → bit a n ≡ bit b n
+    go (inl x) (inl y) = x ∙ sym y
+    go (inr x) y = x ∙ sym (f x)
+    go (inl x) (inr y) = absurd (omega (arith, g y))
 
 -- ---- a mask without one of its nodes
 
@@ -41,7 +53,8 @@ module _ (m n : ℕ) (h : bit m n ≡ 1) where
   -- and its other nodes are as they were
   pub without-other : (k : ℕ) → k ≢ n → bit (m - 2 ^ n) k ≡ bit m k
   without-other k d =
-      let i : insert (m - 2 ^ n) n ≡ m = ap (λ (x : ℕ). (m - 2 ^ n) + (1 - x) * 2 ^ n) without-self ∙ ap (λ (x : ℕ). (m - 2 ^ n) + x) (one-mul (2 ^ n)) ∙ sym taken in
+      let i : insert (m - 2 ^ n) n ≡ m =
+      ap (λ (x : ℕ). (m - 2 ^ n) + (1 - x) * 2 ^ n) without-self ∙ ap (λ (x : ℕ). (m - 2 ^ n) + x) (one-mul (2 ^ n)) ∙ sym taken in
       let b : bit m k ≡ max (bit (m - 2 ^ n) k) (bit (2 ^ n) k) = ap (λ (x : ℕ). bit x k) (sym i) ∙ bit-insert (m - 2 ^ n) n k in
       omega (arith, b, bit-other n k (λ e. d (sym e)))
 
@@ -159,16 +172,15 @@ laid-all v w u turns laid p l f all h =
         few a c q = go (leb c a) refl
           where
             go : (t : Bool) → leb c a ≡ t → a < c
-            go true g = let d : ℕ = a - c in let s : (c + d) * w ≡ c * w + d * w = add-mul c d w in let r : c + d ≡ a = omega (arith, leb-true c a g) in absurd (omega (arith, ap (λ (x : ℕ). x * w) r))
+            go true g =
+                let d : ℕ = a - c in
+                let s : (c + d) * w ≡ c * w + d * w = add-mul c d w in
+                let r : c + d ≡ a = omega (arith, leb-true c a g) in
+                absurd (omega (arith, ap (λ (x : ℕ). x * w) r))
             go false g = leb-false c a g
 
     same : (n : ℕ) → n < w → bit (bitAnd laid (allNodes w)) n ≡ bit (image u (λ b. b % w) v) n
-    same n k = low n k ∙ go (bit-cases laid n) (bit-cases (image u (λ b. b % w) v) n)
-      where
-        go : (bit laid n ≡ 0) ⊎ (bit laid n ≡ 1) → (bit (image u (λ b. b % w) v) n ≡ 0) ⊎ (bit (image u (λ b. b % w) v) n ≡ 1) → bit laid n ≡ bit (image u (λ b. b % w) v) n
-        go (inl a) (inl b) = a ∙ sym b
-        go (inr a) b = a ∙ sym (to n k a)
-        go (inl a) (inr b) = absurd (omega (arith, from n k b))
+    same n k = low n k ∙ bit-same laid (image u (λ b. b % w) v) n (to n k) (from n k)
 
 -- ---- gathered
 
@@ -237,12 +249,7 @@ gathered-all w u f left out hu ho hf z g = ext w out (image u f w) ho (image-lt 
     from n e = let x = image-only u f w n e in ⊎-elim (λ o. absurd (none-left (x .0) o)) (λ o. ap (bit out) (sym (x .3)) ∙ o) (g .each (x .0) (x .2))
 
     same : (n : ℕ) → n < w → bit out n ≡ bit (image u f w) n
-    same n l = go (bit-cases out n) (bit-cases (image u f w) n)
-      where
-        go : (bit out n ≡ 0) ⊎ (bit out n ≡ 1) → (bit (image u f w) n ≡ 0) ⊎ (bit (image u f w) n ≡ 1) → bit out n ≡ bit (image u f w) n
-        go (inl a) (inl b) = a ∙ sym b
-        go (inr a) b = a ∙ sym (to n a)
-        go (inl a) (inr b) = absurd (omega (arith, from n b))
+    same n l = bit-same out (image u f w) n (to n) (from n)
 
 -- ---- the nodes of a set by their ranks
 
@@ -275,7 +282,12 @@ ranked-split w set ranks t i n = go (ℕ-discrete n t) (leb t n) refl
     go : Dec (n ≡ t) → (b : Bool) → leb t n ≡ b → byRank set ranks n ≡ (has (ranks % 2 * 2 ^ t) n || byRank (set - 2 ^ t) (ranks / 2) n)
     go (yes e) b x =
         rw e
-        (rw (eq-eqb (bit set t) 1 (i .member), i .ranked, own (ranks % 2) small, ne-eqb (bit (set - 2 ^ t) t) 1 (λ o. absurd (omega (arith, without-self set t (i .member)))))
+        (rw (
+          eq-eqb (bit set t) 1 (i .member),
+          i .ranked,
+          own (ranks % 2) small,
+          ne-eqb (bit (set - 2 ^ t) t) 1 (λ o. absurd (omega (arith, without-self set t (i .member)))),
+        )
         (ap (λ (x : ℕ). eqb (x % 2) 1) (div-one ranks) ∙ sym (or-false (eqb (ranks % 2) 1))))
     go (no d) true x =
         let above : t < n = lt-of-le-of-ne (leb-true t n x) (λ e. d (sym e)) in
@@ -325,7 +337,8 @@ ranked-more w set ranks out n {t} {d} {next} {rest} p h et ed er en =
 -- nothing is left: what is out is all
 pub ranked-all : (w set ranks left bits out : ℕ) → out < 2 ^ w → (not (eqb left 0) && not (eqb bits 0)) ≡ false
     → ((n : ℕ) → (has out n || byRank left bits n) ≡ byRank set ranks n) → out ≡ maskOf w (byRank set ranks)
-ranked-all w set ranks left bits out h e q = maskOf-is w out (byRank set ranks) h (λ n l. sym (or-false (has out n)) ∙ ap (λ (b : Bool). has out n || b) (sym (ranked-none left bits n e)) ∙ q n)
+ranked-all w set ranks left bits out h e q =
+    maskOf-is w out (byRank set ranks) h (λ n l. sym (or-false (has out n)) ∙ ap (λ (b : Bool). has out n || b) (sym (ranked-none left bits n e)) ∙ q n)
   where
     or-false : (a : Bool) → (a || false) ≡ a
     or-false true = refl
@@ -369,7 +382,8 @@ image-ranked w u f r m p h g = sym (maskOf-is w (image u f w) (byRank m ranks) (
 -- the image of an image
 pub image-image : (w u : ℕ) (f g : ℕ → ℕ) → ((b : ℕ) → b < w → f b < w) → ((b : ℕ) → g b < w) → image (image u f w) g w ≡ image u (λ b. g (f b)) w
 image-image w u f g hf hg =
-    ext w (image (image u f w) g w) (image u (λ b. g (f b)) w) (image-lt w (image u f w) g w (λ b l e. hg b)) (image-lt w u (λ b. g (f b)) w (λ b l e. hg (f b))) same
+    ext w (image (image u f w) g w) (image u (λ b. g (f b)) w)
+    (image-lt w (image u f w) g w (λ b l e. hg b)) (image-lt w u (λ b. g (f b)) w (λ b l e. hg (f b))) same
   where
     to : (n : ℕ) → bit (image (image u f w) g w) n ≡ 1 → bit (image u (λ b. g (f b)) w) n ≡ 1
     to n e =
@@ -384,10 +398,4 @@ image-image w u f g hf hg =
         ap (bit (image (image u f w) g w)) (sym (x .3)) ∙ image-has (image u f w) g w (f (x .0)) (hf (x .0) (x .1)) (image-has u f w (x .0) (x .1) (x .2))
 
     same : (n : ℕ) → n < w → bit (image (image u f w) g w) n ≡ bit (image u (λ b. g (f b)) w) n
-    same n l = go (bit-cases (image (image u f w) g w) n) (bit-cases (image u (λ b. g (f b)) w) n)
-      where
-        go : (bit (image (image u f w) g w) n ≡ 0) ⊎ (bit (image (image u f w) g w) n ≡ 1) → (bit (image u (λ b. g (f b)) w) n ≡ 0) ⊎ (bit (image u (λ b. g (f b)) w) n ≡ 1)
-            → bit (image (image u f w) g w) n ≡ bit (image u (λ b. g (f b)) w) n
-        go (inl a) (inl b) = a ∙ sym b
-        go (inr a) b = a ∙ sym (to n a)
-        go (inl a) (inr b) = absurd (omega (arith, from n b))
+    same n l = bit-same (image (image u f w) g w) (image u (λ b. g (f b)) w) n (to n) (from n)

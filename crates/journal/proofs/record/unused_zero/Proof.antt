@@ -75,32 +75,38 @@ places-zero-requires-6 c κs = search needs
 returns : tie.Need-returns
 returns c =
     let s = c .before .before .before .before .before .before in
-    rw (c .before .before .before .enum-told .given .1, c .before .before .zero-from .ensures, c .before .zero-from2 .ensures, c .places-zero .ensures) (request-zero (s .args .len) (s .args .bytes .now) (s .pre))
+    rw (c .before .before .before .enum-told .given .1, c .before .before .zero-from .ensures, c .before .zero-from2 .ensures, c .places-zero .ensures)
+    (request-zero (s .args .len) (s .args .bytes .now) (s .pre))
 
 returns-2 : tie.Need-returns-2
 returns-2 c =
     let s = c .before .before .before .before .before .before in
-    rw (c .before .before .before .enum-told2 .given .1, c .before .before .zero-from3 .ensures, c .before .zero-from4 .ensures, c .places-zero2 .ensures) (release-zero (s .args .len) (s .args .bytes .now) (s .pre))
+    rw (c .before .before .before .enum-told2 .given .1, c .before .before .zero-from3 .ensures, c .before .zero-from4 .ensures, c .places-zero2 .ensures)
+    (release-zero (s .args .len) (s .args .bytes .now) (s .pre))
 
 returns-3 : tie.Need-returns-3
 returns-3 c =
     let s = c .before .before .before .before .before in
-    rw (c .before .before .enum-told3 .given .1, c .before .zero-from5 .ensures, c .places-zero3 .ensures) (rebind-zero (s .args .len) (s .args .bytes .now) (s .pre))
+    rw (c .before .before .enum-told3 .given .1, c .before .zero-from5 .ensures, c .places-zero3 .ensures)
+    (rebind-zero (s .args .len) (s .args .bytes .now) (s .pre))
 
 returns-4 : tie.Need-returns-4
 returns-4 c =
     let s = c .before .before .before .before .before in
-    rw (c .before .before .enum-told4 .given .1, byte-zero 4 (s .args .bytes .now) (omega arith), c .places-zero4 .ensures) (install-zero (s .args .len) (s .args .bytes .now) (s .pre))
+    rw (c .before .before .enum-told4 .given .1, byte-zero 4 (s .args .bytes .now) (omega arith), c .places-zero4 .ensures)
+    (install-zero (s .args .len) (s .args .bytes .now) (s .pre))
 
 returns-5 : tie.Need-returns-5
 returns-5 c =
     let s = c .before .before .before .before .before .before in
-    rw (c .before .before .before .enum-told5 .given .1, c .before .before .zero-from6 .ensures, c .before .zero-from7 .ensures, c .places-zero5 .ensures) (clear-zero (s .args .len) (s .args .bytes .now) (s .pre))
+    rw (c .before .before .before .enum-told5 .given .1, c .before .before .zero-from6 .ensures, c .before .zero-from7 .ensures, c .places-zero5 .ensures)
+    (clear-zero (s .args .len) (s .args .bytes .now) (s .pre))
 
 returns-6 : tie.Need-returns-6
 returns-6 c =
     let s = c .before .before .before .before .before .before in
-    rw (c .before .before .before .enum-told6 .given .1, c .before .before .zero-from8 .ensures, c .before .zero-from9 .ensures, c .places-zero6 .ensures) (unknown-zero (s .args .len) (s .args .bytes .now) (s .pre))
+    rw (c .before .before .before .enum-told6 .given .1, c .before .before .zero-from8 .ensures, c .before .zero-from9 .ensures, c .places-zero6 .ensures)
+    (unknown-zero (s .args .len) (s .args .bytes .now) (s .pre))
 
 pub unused-zero-spec : {M : Type 1} → statement M
 unused-zero-spec =

@@ -64,7 +64,8 @@ unfolding ranksIn
 returns c =
     let l = c .before .before .loop in
     let a = c .before .before .before .args in
-    gathered-all 64 (a .self .0) (rank (a .set .0)) (l .left .0) (l .out .0) (omega arith) (l .inv .0) (λ b k. lt-of-le-of-lt (rank-le (a .set .0) b) k) (c .if1 .left) (l .inv .1)
+    gathered-all 64 (a .self .0) (rank (a .set .0)) (l .left .0) (l .out .0) (omega arith) (l .inv .0)
+    (λ b k. lt-of-le-of-lt (rank-le (a .set .0) b) k) (c .if1 .left) (l .inv .1)
 
 pub ranks-in-spec : {M : Type 1} → statement M
 ranks-in-spec =

@@ -12,7 +12,8 @@ use Rattle.placement.proofs.grant.grant_first.Tie as tie
 abbrev Inv-loop : tie.InvT-loop
 Inv-loop counts pages₀ from holder order i₀ pages i =
     (pages ≡ pages₀)
-    × (firstGiven counts pages₀ (stepsOf (order .nodes) (order .cursors) from (order .len - from)) ≡ firstGiven counts pages₀ (stepsOf (order .nodes) (order .cursors) i (order .len - i)))
+    × (firstGiven counts pages₀ (stepsOf (order .nodes) (order .cursors) from (order .len - from))
+    ≡ firstGiven counts pages₀ (stepsOf (order .nodes) (order .cursors) i (order .len - i)))
 
 abbrev μ-loop : tie.MeasureT-loop
 μ-loop counts pages₀ from holder order i₀ pages i = order .len - i
@@ -40,11 +41,15 @@ same-length c = search needs
 
 returns : tie.Need-returns Inv-loop μ-loop
 returns c =
-    let a = c .before .before .before .before .before .before .before .before .before .before .before .before .before .args in
-    let v = c .before .before .before .before .before .before .before .before .before .before .loop .inv in
-    let t = c .before .before .before .before .before .before .take-page .ensures in
+    let taken = c .before .before .before .before .before .before in
+    let going = taken .before .before .before in
+    let l = going .before .loop in
+    let a = going .before .before .before .before .args in
+    let v = l .inv in
+    let t = taken .take-page .ensures in
     let e = c .before .before .found .given .1 in (
-      sym (v .1 ∙ given-here (a .counts .now) (a .pages .now) (a .t3 .nodes) (a .t3 .cursors) (c .before .before .before .before .before .before .before .before .before .before .loop .i) (a .t3 .len) (c .before .before .before .before .before .before .before .before .before .loop-test .taken) _ (rw (v .0, e) at (sym (t .0)))),
+      sym (v .1 ∙ given-here (a .counts .now) (a .pages .now) (a .t3 .nodes) (a .t3 .cursors) (l .i) (a .t3 .len) (going .loop-test .taken) _
+          (rw (v .0, e) at (sym (t .0)))),
       rw (v .0, e) at (t .1),
     )
 
@@ -59,12 +64,16 @@ loop-less c = search needs
 
 loop-again : tie.Need-loop-again Inv-loop μ-loop
 loop-again c =
-    let a = c .before .before .before .before .before .before .before .before .before .before .before .args in
-    let v = c .before .before .before .before .before .before .before .before .loop .inv in
-    let t = c .before .before .before .before .take-page .ensures in
+    let taken = c .before .before .before .before in
+    let going = taken .before .before .before in
+    let l = going .before .loop in
+    let a = going .before .before .before .before .args in
+    let v = l .inv in
+    let t = taken .take-page .ensures in
     let e = c .enum-told .given .1 in (
       rw (e, v .0) at (t .1),
-      v .1 ∙ given-past (a .counts .now) (a .pages .now) (a .t3 .nodes) (a .t3 .cursors) (c .before .before .before .before .before .before .before .before .loop .i) (a .t3 .len) (c .before .before .before .before .before .before .before .loop-test .taken) (rw (v .0, e) at (sym (t .0))),
+      v .1 ∙ given-past (a .counts .now) (a .pages .now) (a .t3 .nodes) (a .t3 .cursors) (l .i) (a .t3 .len) (going .loop-test .taken)
+          (rw (v .0, e) at (sym (t .0))),
     )
 
 same-length-2 : tie.Need-same-length-2 Inv-loop μ-loop

@@ -16,7 +16,8 @@ use Rattle.placement.proofs.order.add_list.Tie as tie
 abbrev Inv-loop : tie.InvT-loop
 Inv-loop nodes limit places len steps₀ cursors₀ at₀ i₀ steps cursors at i =
     (i ≤ len) × (length steps ≡ 64) × (length cursors ≡ 64) × (at ≤ i + 1)
-    × (stepsOf steps cursors 0 at ++ triedIn nodes (limit .0) (listSteps places i (len - i)) ≡ stepsOf steps₀ cursors₀ 0 at₀ ++ triedIn nodes (limit .0) (listSteps places 0 len))
+    × (stepsOf steps cursors 0 at ++ triedIn nodes (limit .0) (listSteps places i (len - i))
+    ≡ stepsOf steps₀ cursors₀ 0 at₀ ++ triedIn nodes (limit .0) (listSteps places 0 len))
 
 abbrev μ-loop : tie.MeasureT-loop
 μ-loop nodes limit places len steps₀ cursors₀ at₀ i₀ steps cursors at i = len - i
@@ -49,7 +50,10 @@ loop-again c =
       p .cursors-64,
       omega (arith, p .short),
       rw (p .held, c .before .before .before .node-at .ensures)
-          (tried-next (a .nodes) (a .limit .0) done _ _ ∙ ap (λ (ss : List Try). done ++ triedIn (a .nodes) (a .limit .0) ss) (sym (list-next (a .places) (l .i) (a .len) (c .before .before .before .before .loop-test .taken))) ∙ l .inv .4),
+          (tried-next (a .nodes) (a .limit .0) done _ _
+          ∙ ap (λ (ss : List Try). done ++ triedIn (a .nodes) (a .limit .0) ss)
+          (sym (list-next (a .places) (l .i) (a .len) (c .before .before .before .before .loop-test .taken)))
+          ∙ l .inv .4),
     )
 
 returns : tie.Need-returns Inv-loop μ-loop

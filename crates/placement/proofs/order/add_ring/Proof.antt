@@ -17,7 +17,8 @@ use Rattle.placement.proofs.order.add_ring.Tie as tie
 abbrev Inv-loop : tie.InvT-loop
 Inv-loop nodes limit places len cursor steps₀ cursors₀ at₀ i₀ steps cursors at i =
     (i ≤ len) × (length steps ≡ 64) × (length cursors ≡ 64) × (at ≤ i + 1)
-    × (stepsOf steps cursors 0 at ++ triedIn nodes (limit .0) (ringSteps places len (cursor + i) (len - i)) ≡ stepsOf steps₀ cursors₀ 0 at₀ ++ triedIn nodes (limit .0) (ringSteps places len cursor len))
+    × (stepsOf steps cursors 0 at ++ triedIn nodes (limit .0) (ringSteps places len (cursor + i) (len - i))
+    ≡ stepsOf steps₀ cursors₀ 0 at₀ ++ triedIn nodes (limit .0) (ringSteps places len cursor len))
 
 abbrev μ-loop : tie.MeasureT-loop
 μ-loop nodes limit places len cursor steps₀ cursors₀ at₀ i₀ steps cursors at i = len - i
@@ -56,8 +57,9 @@ loop-less c = search needs
 
 loop-again : tie.Need-loop-again Inv-loop μ-loop
 loop-again c =
-    let a = c .before .before .before .before .before .before .before .before .before .args in
-    let l = c .before .before .before .before .before .before .loop in
+    let going = c .before .before .before .before .before .before in
+    let a = going .before .before .before .args in
+    let l = going .loop in
     let p = c .put .ensures in
     let done = stepsOf (l .steps) (l .cursors) 0 (l .at) in (
       search needs,
@@ -65,7 +67,10 @@ loop-again c =
       p .cursors-64,
       omega (arith, p .short),
       rw (p .held, c .before .before .before .before .node-at .ensures, c .before .cursor-at .ensures)
-          (tried-next (a .nodes) (a .limit .0) done _ _ ∙ ap (λ (ss : List Try). done ++ triedIn (a .nodes) (a .limit .0) ss) (sym (ring-next (a .places) (a .len) (a .cursor) (l .i) (c .before .before .before .before .before .loop-test .taken))) ∙ l .inv .4),
+          (tried-next (a .nodes) (a .limit .0) done _ _
+          ∙ ap (λ (ss : List Try). done ++ triedIn (a .nodes) (a .limit .0) ss)
+          (sym (ring-next (a .places) (a .len) (a .cursor) (l .i) (c .before .before .before .before .before .loop-test .taken)))
+          ∙ l .inv .4),
     )
 
 returns : tie.Need-returns Inv-loop μ-loop

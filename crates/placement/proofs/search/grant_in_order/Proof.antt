@@ -22,7 +22,13 @@ grant-first-requires c κs =
     let a = st .args in
     let o = c .before .search-order in
     let some-machine : Machine = record { pageCounts = a .counts .now; cpuNodes = []; distances = a .distances .now } in
-    (st .pre .0 .fits, o .ensures .0, nodes-below some-machine (a .limit .0) _ (a .x .0) (length (a .counts .now)) (o .result .nodes) (o .result .cursors) (o .result .len) (st .pre .0 .below-count) (o .ensures .1 some-machine refl refl))
+    let r = o .result in (
+      st .pre .0 .fits,
+      o .ensures .0,
+      nodes-below some-machine (a .limit .0) _ (a .x .0) (length (a .counts .now)) (r .nodes) (r .cursors) (r .len)
+          (st .pre .0 .below-count)
+          (o .ensures .1 some-machine refl refl),
+    )
 
 same-length : tie.Need-same-length
 same-length c = search needs
@@ -34,7 +40,8 @@ returns c =
     let o = c .before .before .before .before .search-order in
     let g = c .before .before .grant-first .ensures in (
       λ m n d. g .0
-          ∙ ap (firstGiven (a .counts .now) (a .pages .now)) (steps-drop (o .result .nodes) (o .result .cursors) (a .tried) (o .result .len) ∙ ap (drop (a .tried)) (o .ensures .1 m (ap length n) d))
+          ∙ ap (firstGiven (a .counts .now) (a .pages .now))
+          (steps-drop (o .result .nodes) (o .result .cursors) (a .tried) (o .result .len) ∙ ap (drop (a .tried)) (o .ensures .1 m (ap length n) d))
           ∙ st .pre .1 m n,
       g .1,
     )

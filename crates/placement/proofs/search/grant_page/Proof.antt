@@ -38,13 +38,19 @@ enum-told c = search needs
 grant-in-order-requires : tie.Need-grant-in-order-requires
 unfolding Starts
 grant-in-order-requires c κs =
-    let st = c .before .before .before .before .before .before .before .before .before .before .before .before .before .before in
+    let tried = c .before .before .before .before .before in
+    let known = tried .before .before .before in
+    let found = known .before .before in
+    let st = found .before .before .before .before in
     let a = st .args in
-    let g = c .before .before .before .before .before .grant-one .ensures in
+    let g = tried .grant-one .ensures in
     let e = ap givenOf (c .before .enum-told .given .1) in
     let same = g .1 ∙ ap (λ given. markGiven (a .pages .now) given (a .holder)) e in
-    rw same
-    (st .pre, λ m n. let s = rw (c .before .before .before .before .before .before .before .before .step .given .1) at (c .before .before .before .before .before .before .before .before .before .before .first-step .ensures m (ap length n)) in first-full (a .counts .now) (a .pages .now) _ _ (s .0) (s .1) (sym (g .0) ∙ e))
+    rw same (
+      st .pre,
+      λ m n. let s = rw (known .step .given .1) at (found .first-step .ensures m (ap length n)) in
+          first-full (a .counts .now) (a .pages .now) _ _ (s .0) (s .1) (sym (g .0) ∙ e),
+    )
 
 enum-told-2 : tie.Need-enum-told-2
 enum-told-2 c = search needs
@@ -60,18 +66,26 @@ same-length c = search needs
 returns : tie.Need-returns
 unfolding Starts
 returns c =
-    let a = c .before .before .before .before .before .before .before .before .before .before .before .before .before .before .args in
-    let g = c .before .before .before .before .before .grant-one .ensures in
-    let e = ap givenOf (c .before .quick .given .1) in
-    (λ m n d. sym (first-given (a .counts .now) (a .pages .now) _ _ _ (rw (c .before .before .before .before .before .before .before .before .step .given .1) at (c .before .before .before .before .before .before .before .before .before .before .first-step .ensures m (ap length n))) (sym (g .0) ∙ e)), g .1 ∙ ap (λ given. markGiven (a .pages .now) given (a .holder)) e)
+    let tried = c .before .before .before .before .before in
+    let known = tried .before .before .before in
+    let found = known .before .before in
+    let a = found .before .before .before .before .args in
+    let g = tried .grant-one .ensures in
+    let e = ap givenOf (c .before .quick .given .1) in (
+      λ m n d. sym (first-given (a .counts .now) (a .pages .now) _ _ _
+          (rw (known .step .given .1) at (found .first-step .ensures m (ap length n)))
+          (sym (g .0) ∙ e)),
+      g .1 ∙ ap (λ given. markGiven (a .pages .now) given (a .holder)) e,
+    )
 
 same-length-2 : tie.Need-same-length-2
 same-length-2 c = search needs
 
 returns-2 : tie.Need-returns-2
 returns-2 c =
-    let a = c .before .before .before .before .before .before .before .before .before .before .before .before .before .before .before .before .before .args in
-    let g = c .before .before .before .before .before .before .before .before .grant-one .ensures in
+    let tried = c .before .before .before .before .before .before .before .before in
+    let a = tried .before .before .before .before .before .before .before .before .before .args in
+    let g = tried .grant-one .ensures in
     let same = g .1 ∙ ap (λ given. markGiven (a .pages .now) given (a .holder)) (ap givenOf (c .before .before .before .before .enum-told .given .1)) in
     let r = c .before .before .grant-in-order .ensures in
     (λ m n d. rw same at (r .0 m n d), rw same at (r .1))
