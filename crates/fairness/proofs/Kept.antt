@@ -17,7 +17,8 @@ use Rattle.rules.specs.SearchOrder.{Try, chosen, pickPage}
 use Rattle.rules.specs.Calls.{granted, Tables, Decision, refuse, accept, isJob, recordTablesOk, limitOf, orderOf, requestDecision, installDecision}
 use Rattle.rules.specs.Calls.{rebindDecision, releaseDecision, clearDecision, granting, releasing, storing, onRequest, onRelease, onInstall, onRebind, onClear}
 use Rattle.rules.specs.Book.{Call, request, release, install, rebind, clear, withLedger, step}
-use Rattle.rules.proofs.Calls.{accepted, granted-is, granted-in-node}
+use Rattle.rules.proofs.Admission.{accepted}
+use Rattle.rules.proofs.Calls.{granted-is, granted-in-node}
 use Rattle.rules.proofs.Records.{fresh-storable, job-same, job-other}
 use Rattle.rules.proofs.Kept.{request-good}
 use Rattle.fairness.specs.Demand3.{jobIn, Grant, grantBy, grantIn, grants, setsPolicy, isRefused, PolicyKept, nodeGranted}

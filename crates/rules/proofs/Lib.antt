@@ -1,3 +1,4 @@
+pub mod Admission
 pub mod AllRight
 pub mod Lists
 pub mod Sorted
