@@ -1,6 +1,9 @@
 /* Rents out machine A of document 01 to one job, as ring {3,3,1}: prints each answer.
  *
- *   rt staticlib host && gcc -std=c11 hosts/c/rent.c target/staticlib/libhost.a -o rent && ./rent | diff hosts/c/expected.txt -
+ *   rt staticlib spirerivet
+ *   gcc -std=c11 hosts/c/rent.c target/staticlib/libspirerivet.a -o rent && ./rent | diff hosts/c/expected.txt -
+ *
+ * C++ compiles it too: g++ -x c++ in the place of gcc -std=c11, and -x none before the archive.
  */
 #include <stdio.h>
 #include <string.h>

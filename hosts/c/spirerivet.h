@@ -1,4 +1,4 @@
-/* Spirerivet for hosts in C: link target/staticlib/libhost.a (rt staticlib host).
+/* Spirerivet for hosts in C and C++: link target/staticlib/libspirerivet.a (rt staticlib spirerivet).
  *
  * All tables belong to the caller and are lent for one call. A table is a pointer, then its number of ELEMENTS. The pointer
  * must be valid and not null, even for a length of 0; a table that a call may write must overlap no other.
@@ -16,6 +16,10 @@
 
 #include <stddef.h>
 #include <stdint.h>
+
+#ifdef __cplusplus
+extern "C" {
+#endif
 
 #define SPIRE_JOB_WORDS 6
 #define SPIRE_PLACES 16           /* most places in a list */
@@ -104,5 +108,9 @@ struct spire_number spire_replay(const uint32_t *counts, size_t nodes, const uin
 /* A whole journal, machine record first: the length of its answers, 12 bytes each. Writes that many bytes of output, which
  * must have room for an answer to each whole record of 32 bytes that fits into the input, and one more. Refusal 11. */
 struct spire_number spire_journal(const uint8_t *input, size_t input_bytes, uint8_t *output, size_t output_bytes);
+
+#ifdef __cplusplus
+}
+#endif
 
 #endif

@@ -1,0 +1,103 @@
+//! The public calls, over slices that the host lends.
+
+use crate::answer::{Answer, Refusal};
+use crate::ffi::{self, HostAnswer, HostNumber};
+
+/// Node and page of an answer that names none.
+pub const NO_NODE: u8 = 255;
+pub const NO_PAGE: u32 = u32::MAX;
+
+/// The refusal of a number that is not 0.
+pub fn refusal_of(number: u8) -> Refusal {
+    match Refusal::of_number(number) {
+        Some(refusal) => refusal,
+        None => panic!("the library answered refusal {number}, which document 01 does not have"),
+    }
+}
+
+/// A refusal returns its number alone; what was done is said by `done`.
+fn answer(raw: HostAnswer, done: fn(u8, u32) -> Answer) -> Answer {
+    if raw.refusal == 0 {
+        return done(raw.node, raw.page);
+    }
+    debug_assert!(raw.node == NO_NODE && raw.page == NO_PAGE, "a refusal with node {} page {}", raw.node, raw.page);
+    Answer::Refused(refusal_of(raw.refusal))
+}
+
+/// An answer that names no node and no page.
+fn done(node: u8, page: u32) -> Answer {
+    debug_assert!(node == NO_NODE && page == NO_PAGE, "done with node {node} page {page}");
+    Answer::Done
+}
+
+/// The number, or the refusal alone.
+fn number(raw: HostNumber) -> Result<u64, Refusal> {
+    if raw.refusal == 0 {
+        return Ok(raw.value);
+    }
+    debug_assert!(raw.value == 0, "a refusal with the number {}", raw.value);
+    Err(refusal_of(raw.refusal))
+}
+
+/// Takes one page for a job, by its record's search order as seen from a CPU.
+pub fn request(
+    counts: &[u32],
+    cpus: &[u8],
+    distances: &[u8],
+    pages: &mut [u8],
+    jobs: &mut [u64],
+    job: usize,
+    cpu: usize,
+) -> Answer {
+    let raw = ffi::request(counts, cpus, distances, pages, jobs, job, cpu);
+    answer(raw, |node, page| Answer::Granted { node, page })
+}
+
+/// Gives a page back that the job holds.
+pub fn release(counts: &[u32], pages: &mut [u8], jobs: &[u64], job: usize, page: usize) -> Answer {
+    answer(ffi::release(counts, pages, jobs, job, page), |node, page| Answer::Released { node, page })
+}
+
+/// Sets a job's policy: a mode of `mode`, a flag of `flag`, a user mask or places.
+pub fn install(nodes: usize, jobs: &mut [u64], job: usize, mode: u64, flag: u64, mask: u64, places: &[u8]) -> Answer {
+    answer(ffi::install(nodes, jobs, job, mode, flag, mask, places), done)
+}
+
+/// Sets the nodes that a job may use.
+pub fn rebind(nodes: usize, jobs: &mut [u64], job: usize, allowed: u64) -> Answer {
+    answer(ffi::rebind(nodes, jobs, job, allowed), done)
+}
+
+/// Makes a job's record fresh; the pages it holds stay held.
+pub fn clear(nodes: usize, jobs: &mut [u64], job: usize) -> Answer {
+    answer(ffi::clear(nodes, jobs, job), done)
+}
+
+/// The mask that a node list stands for.
+pub fn read_nodes(nodes: usize, allowed: u64, text: &[u8]) -> Result<u64, Refusal> {
+    number(ffi::read_nodes(nodes, allowed, text))
+}
+
+/// Writes a mask as a node list; gives the length of the text.
+pub fn write_nodes(nodes: usize, mask: u64, out: &mut [u8]) -> Result<usize, Refusal> {
+    number(ffi::write_nodes(nodes, mask, out)).map(|length| length as usize)
+}
+
+/// Makes all calls of a list (see `words_of`) and writes a word for each answer; gives how many.
+pub fn replay(
+    counts: &[u32],
+    cpus: &[u8],
+    distances: &[u8],
+    pages: &mut [u8],
+    jobs: &mut [u64],
+    calls: &[u64],
+    answers: &mut [u64],
+) -> Result<usize, Refusal> {
+    number(ffi::replay(counts, cpus, distances, pages, jobs, calls, answers)).map(|ran| ran as usize)
+}
+
+/// Runs a whole journal and writes its answers; gives their length. The output must have room for an answer to each whole
+/// record that fits into the input, and one more.
+pub fn journal(input: &[u8], output: &mut [u8]) -> Result<usize, Refusal> {
+    number(ffi::journal(input, output)).map(|length| length as usize)
+}

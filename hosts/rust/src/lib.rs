@@ -1,0 +1,37 @@
+//! The proved memory placer for Rust hosts.
+//!
+//! A thin, safe layer over libspirerivet.a. Tables are lent as slices, laid
+//! out as document 01 says; every call gives its answer or one numbered
+//! refusal, and a refused call changes nothing that it was lent.
+
+#![deny(unsafe_code)]
+
+mod answer;
+mod calls;
+mod ffi;
+mod list;
+
+pub use answer::{Answer, Refusal};
+pub use calls::{clear, install, journal, read_nodes, rebind, release, replay, request, write_nodes};
+pub use list::{answer_of, words_of, Call, CALL_WORDS, MOST_CALL_PLACES};
+
+/// The words of a job in the job table.
+pub const JOB_WORDS: usize = 6;
+
+/// The modes that `install` knows.
+pub mod mode {
+    pub const DEFAULT: u64 = 0;
+    pub const PREFERRED: u64 = 1;
+    pub const BIND: u64 = 2;
+    pub const INTERLEAVE: u64 = 3;
+    pub const LIST: u64 = 4;
+    pub const RING: u64 = 5;
+    pub const EARLY: u64 = 6;
+}
+
+/// The flags that `install` knows.
+pub mod flag {
+    pub const NONE: u64 = 0;
+    pub const STATIC: u64 = 1;
+    pub const RELATIVE: u64 = 2;
+}
