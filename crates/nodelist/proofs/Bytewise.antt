@@ -1,30 +1,34 @@
 -- The reader that goes a byte at a time reads what document 01 says of the whole text.
 -- Assumes nothing.
-use mathlib.Core.Path.{_≡_, refl, sym, ap, ap₂, subst, _∙_}
-use mathlib.Core.Bool.{Bool, true, false, _&&_, _||_, cond, and-false}
+use mathlib.Core.Path.{_≡_, refl, sym, ap, subst, _∙_}
+use mathlib.Core.Bool.{Bool, true, false, _||_, cond, and-false, or-assoc}
 use mathlib.Core.List.{List, [], _∷_, _++_, append-nil, append-assoc}
 use mathlib.Core.Option.{Option, none, some}
-use Prim.Native.Nat.{ℕ, _+_, _-_, _*_, _^_, _≤_, _<_, zero-le}
+use Prim.Native.Nat.{ℕ, _+_, _-_, _*_, _^_, _≤_, _<_}
 use native.Mathlib.Numerals.{add-one}
 use native.Mathlib.Omega.{arith}
 use native.Mathlib.Nat.{le-refl, lt-irrefl, lt-of-lt-of-le, lt-of-le-of-lt, sub-le}
 use native.Mathlib.Decide.{decLt}
-use lib.Dec.{eqb, leb, ltb, lit<}
+use lib.Dec.{eqb, leb, ltb}
 use lib.Seq.{append-snoc, drop-cons, drop-length}
 use lib.ListN.{length, getD, drop}
 use lib.Pow.{ones-lt, pow-mono, pow-pos}
 use lib.Bits.{or-lt}
-use borrow.Author.Tests.{eqb-true, eqb-false, ne-eqb, ltb-true, ltb-false, leb-true, le-leb, lt-leb}
+use borrow.Author.Tests.{eqb-true, eqb-false, ne-eqb, ltb-true, ltb-false, leb-true, lt-leb}
 use Rattle.rules.specs.Basics.{all, isEmpty, between}
 use Rattle.rules.specs.Masks.{maskBits, has, allNodes, maskOf}
 use Rattle.rules.specs.Text.{comma, dash, split, valueFrom, value, isNumber, isItem, itemHas, isItems, names}
-use Rattle.rules.proofs.Masks.{bit-above, bit-others, bit-below, bit-below-out, has-or, maskOf-is, maskOf-same}
-use Rattle.rules.proofs.Text.{or-assoc, free, between-one, Number, is-number, NoNumber, number-one, number-more, not-digit, too-large, leading-zero, value-snoc, split-parts, split-free, split-one, split-at, digits-free, item-first, item-second, all-append, items-one, names-one, items-more, names-more}
+use Rattle.rules.proofs.Lists.{all-append, true-between}
+use Rattle.rules.proofs.Masks.{none-in, bit-above, bit-others, bit-below, bit-below-out, has-or, maskOf-is, maskOf-same}
+use Rattle.nodelist.proofs.Items.{free, between-one, Number, is-number, NoNumber, number-one, number-more, not-digit, too-large, leading-zero}
+use Rattle.nodelist.proofs.Items.{value-snoc, split-parts, split-free, split-at, number-free, split-number, split-range, item-range}
+use Rattle.nodelist.proofs.Items.{item-first, item-second, items-one, names-one, items-more, names-more}
 use Rattle.nodelist.specs.declared.reader.Item.{Item}
 use Rattle.nodelist.specs.declared.reader.Item.the-variants.{Empty, Number as NumberItem, Dashed, Range, Broken}
 use Rattle.nodelist.specs.declared.reader.Progress.{Progress}
 use Rattle.nodelist.specs.declared.reader.Numbers.{Numbers}
-use Rattle.nodelist.specs.Reader.{itemsRead, span, progress, withSpan, readOn, answer, ended, Fits, grown, numberBelow, rangeBelow, withDigit, withDash, withByte, closed, stepped}
+use Rattle.nodelist.specs.Reader.{itemsRead, span, progress, withSpan, readOn, answer, ended, Fits, grown, numberBelow, rangeBelow, withDigit, withDash}
+use Rattle.nodelist.specs.Reader.{withByte, closed, stepped}
 
 -- ---- the numbers of an item stay small
 
@@ -38,19 +42,12 @@ fits-wider Broken l f = tt
 
 -- ---- no dash
 
-number-free : {limit : ℕ} {a : List ℕ} → Number limit a → free dash a ≡ true
-number-free {a = a} n = digits-free dash a (lit< tt) (n .digits)
-
 other-free : (x : ℕ) → (x ≡ dash → ⊥) → free dash (x ∷ []) ≡ true
 unfolding all
 other-free x e = rw (ne-eqb x dash e)
 
-one-free : (x : ℕ) → between 48 57 x ≡ true → free dash (x ∷ []) ≡ true
-unfolding all
-one-free x d = digits-free dash (x ∷ []) (lit< tt) (rw d)
-
-more-free : {limit : ℕ} (a : List ℕ) (x : ℕ) → Number limit a → between 48 57 x ≡ true → free dash (a ++ x ∷ []) ≡ true
-more-free a x n d = all-append _ a (x ∷ []) (number-free n) (one-free x d)
+more-free : {limit : ℕ} {a : List ℕ} (x : ℕ) → Number limit a → (x ≡ dash → ⊥) → free dash (a ++ x ∷ []) ≡ true
+more-free {a = a} x n e = all-append _ a (x ∷ []) (number-free n) (other-free x e)
 
 -- ---- a text that no item starts with
 
@@ -67,18 +64,15 @@ broken-first limit a f n q =
 broken-second : (limit : ℕ) (a b : List ℕ) → free dash a ≡ true → free dash b ≡ true → NoNumber limit b → NoItem limit (a ++ dash ∷ b)
 broken-second limit a b f g n q =
     let s = split-parts dash q in
-    ap (λ (t : List ℕ). isItem limit (split dash t)) (append-assoc a (dash ∷ b) q)
-    ∙ ap (isItem limit) (split-at dash a (b ++ q) f ∙ ap (λ (t : List (List ℕ)). a ∷ t) (split-free dash b q (s .0) (s .1) g (s .2)))
-    ∙ item-second limit a (b ++ s .0) (s .1) (n (s .0))
+    rw (append-assoc a (dash ∷ b) q, split-at dash a (b ++ q) f, split-free dash b q (s .0) (s .1) g (s .2))
+    (item-second limit a (b ++ s .0) (s .1) (n (s .0)))
 
 -- it has a third part
 broken-third : (limit : ℕ) (a b : List ℕ) → free dash a ≡ true → free dash b ≡ true → NoItem limit (a ++ dash ∷ b ++ dash ∷ [])
 unfolding isItem
 broken-third limit a b f g q =
-    let s = split-parts dash q in
-    ap (λ (t : List ℕ). isItem limit (split dash t)) (append-assoc (a ++ dash ∷ b) (dash ∷ []) q ∙ append-assoc a (dash ∷ b) (dash ∷ q))
-    ∙ ap (isItem limit)
-    (split-at dash a (b ++ dash ∷ q) f ∙ ap (λ (t : List (List ℕ)). a ∷ t) (split-at dash b q g ∙ ap (λ (t : List (List ℕ)). b ∷ t) (s .2)))
+    rw (append-assoc (a ++ dash ∷ b) (dash ∷ []) q, append-assoc a (dash ∷ b) (dash ∷ q), split-at dash a (b ++ dash ∷ q) f, split-at dash b q g)
+    (ap (λ (t : List (List ℕ)). isItem limit (a ∷ b ∷ t)) (split-parts dash q .2))
 
 -- ---- what is known of the item that is being read
 
@@ -141,31 +135,27 @@ reads-dash {limit} (dashed {a = a} n) = broken (broken-third limit a [] (number-
 reads-dash {limit} (range {a = a} {b = b} n m) = broken (broken-third limit a b (number-free n) (number-free m))
 reads-dash {limit} (broken {p = p} n) = broken (still-broken limit p dash n)
 
-reads-digit : {limit : ℕ} {item : Item} {p : List ℕ} (x : ℕ) → between 48 57 x ≡ true → Reads limit item p
+reads-digit : {limit : ℕ} {item : Item} {p : List ℕ} (x : ℕ) → between 48 57 x ≡ true → (x ≡ dash → ⊥) → Reads limit item p
     → Reads limit (withDigit limit item (x - 48)) (p ++ x ∷ [])
 unfolding withDigit
-reads-digit {limit} x d nothing = as-number limit (x - 48) (x ∷ []) (one-free x d) (first-digit limit x d)
-reads-digit {limit} x d (number {a = a} n) =
-    as-number limit (grown limit (value a) (x - 48)) (a ++ x ∷ []) (more-free a x n d) (more-digits limit a x n d)
-reads-digit {limit} x d (dashed {a = a} n) =
-    subst (Reads limit (rangeBelow limit (value a) (x - 48))) (sym (append-assoc a (dash ∷ []) (x ∷ [])))
-    (as-range limit (x - 48) a (x ∷ []) n (one-free x d) (first-digit limit x d))
-reads-digit {limit} x d (range {a = a} {b = b} n m) =
-    subst (Reads limit (rangeBelow limit (value a) (grown limit (value b) (x - 48)))) (sym (append-assoc a (dash ∷ b) (x ∷ [])))
-    (as-range limit (grown limit (value b) (x - 48)) a (b ++ x ∷ []) n (more-free b x m d) (more-digits limit b x m d))
-reads-digit {limit} x d (broken {p = p} n) = broken (still-broken limit p x n)
+reads-digit {limit} x d e nothing = as-number limit (x - 48) (x ∷ []) (other-free x e) (first-digit limit x d)
+reads-digit {limit} x d e (number {a = a} n) =
+    as-number limit (grown limit (value a) (x - 48)) (a ++ x ∷ []) (more-free x n e) (more-digits limit a x n d)
+reads-digit {limit} x d e (dashed {a = a} n) =
+    rw append-assoc (as-range limit (x - 48) a (x ∷ []) n (other-free x e) (first-digit limit x d))
+reads-digit {limit} x d e (range {a = a} {b = b} n m) =
+    rw append-assoc (as-range limit (grown limit (value b) (x - 48)) a (b ++ x ∷ []) n (more-free x m e) (more-digits limit b x m d))
+reads-digit {limit} x d e (broken {p = p} n) = broken (still-broken limit p x n)
 
 -- any other byte breaks the item
-reads-other : {limit : ℕ} {item : Item} {p : List ℕ} (x : ℕ) → between 48 57 x ≡ false → (x ≡ dash → ⊥) → Reads limit item p → Reads limit Broken (p ++ x ∷ [])
+reads-other : {limit : ℕ} {item : Item} {p : List ℕ} (x : ℕ) → between 48 57 x ≡ false → (x ≡ dash → ⊥) → Reads limit item p
+    → Reads limit Broken (p ++ x ∷ [])
 reads-other {limit} x d e nothing = broken (broken-first limit (x ∷ []) (other-free x e) (not-digit limit [] x d))
-reads-other {limit} x d e (number {a = a} n) =
-    broken (broken-first limit (a ++ x ∷ []) (all-append _ a (x ∷ []) (number-free n) (other-free x e)) (not-digit limit a x d))
+reads-other {limit} x d e (number {a = a} n) = broken (broken-first limit (a ++ x ∷ []) (more-free x n e) (not-digit limit a x d))
 reads-other {limit} x d e (dashed {a = a} n) =
-    subst (Reads limit Broken) (sym (append-assoc a (dash ∷ []) (x ∷ [])))
-    (broken (broken-second limit a (x ∷ []) (number-free n) (other-free x e) (not-digit limit [] x d)))
+    rw append-assoc (broken (broken-second limit a (x ∷ []) (number-free n) (other-free x e) (not-digit limit [] x d)))
 reads-other {limit} x d e (range {a = a} {b = b} n m) =
-    subst (Reads limit Broken) (sym (append-assoc a (dash ∷ b) (x ∷ [])))
-    (broken (broken-second limit a (b ++ x ∷ []) (number-free n) (all-append _ b (x ∷ []) (number-free m) (other-free x e)) (not-digit limit b x d)))
+    rw append-assoc (broken (broken-second limit a (b ++ x ∷ []) (number-free n) (more-free x m e) (not-digit limit b x d)))
 reads-other {limit} x d e (broken {p = p} n) = broken (still-broken limit p x n)
 
 reads-byte : {limit : ℕ} {item : Item} {p : List ℕ} (x : ℕ) → Reads limit item p → Reads limit (withByte limit item x) (p ++ x ∷ [])
@@ -175,12 +165,16 @@ reads-byte {limit} {item} {p} x r = go (eqb x dash) refl (between 48 57 x) refl
     go : (b : Bool) → eqb x dash ≡ b → (d : Bool) → between 48 57 x ≡ d
         → Reads limit (cond b (withDash item) (cond d (withDigit limit item (x - 48)) Broken)) (p ++ x ∷ [])
     go true e d f = subst (λ (y : ℕ). Reads limit (withDash item) (p ++ y ∷ [])) (sym (eqb-true x dash e)) (reads-dash r)
-    go false e true f = reads-digit x f r
+    go false e true f = reads-digit x f (eqb-false x dash e) r
     go false e false f = reads-other x f (eqb-false x dash e) r
 
 -- ---- an item ends
 
--- the span from low to high has the nodes from low to high
+-- the span from low to high has high + 1 bits
+span-lt : (low high : ℕ) → span low high < 2 ^ (high + 1)
+span-lt low high = lt-of-le-of-lt (sub-le (allNodes (high + 1)) (allNodes low)) (ones-lt (high + 1))
+
+-- and the nodes from low to high
 span-has : (low high k : ℕ) → low ≤ high → has (span low high) k ≡ between low high k
 span-has low high k l = go (decLt high k) (decLt k low)
   where
@@ -189,15 +183,11 @@ span-has low high k l = go (decLt high k) (decLt k low)
 
     go : Dec (high < k) → Dec (k < low) → has (span low high) k ≡ between low high k
     go (yes h) d =
-        rw (bit-above (high + 1) (span low high) k (lt-of-le-of-lt (sub-le (allNodes (high + 1)) (allNodes low)) (ones-lt (high + 1))) (omega arith), lt-leb k high h)
-        (sym (and-false (leb low k)))
-    go (no h) (yes q) =
-        rw (bit-others (high + 1) (allNodes low) k low-lt (omega arith), bit-below low k q, lt-leb low k q)
+        rw (bit-above (high + 1) (span low high) k (span-lt low high) (omega arith), lt-leb k high h) (sym (and-false (leb low k)))
+    go (no h) (yes q) = rw (bit-others (high + 1) (allNodes low) k low-lt (omega arith), bit-below low k q, lt-leb low k q)
     go (no h) (no q) =
-        rw (bit-others (high + 1) (allNodes low) k low-lt (omega arith), bit-below-out low k (omega arith), le-leb low k (omega arith), le-leb k high (omega arith))
-
-span-lt : (low high : ℕ) → high < maskBits → span low high < 2 ^ maskBits
-span-lt low high h = lt-of-le-of-lt (sub-le (allNodes (high + 1)) (allNodes low)) (lt-of-lt-of-le (ones-lt (high + 1)) (pow-mono {j = maskBits} (omega arith)))
+        rw (bit-others (high + 1) (allNodes low) k low-lt (omega arith), bit-below-out low k (omega arith))
+        (sym (true-between low high k (omega arith) (omega arith)))
 
 -- where a reader stands after the bytes p of an item: the item was good and its nodes are in, or it was not
 data Closes (limit : ℕ) (m : Numbers) (p : List ℕ) (r : Progress) : Type 0 where
@@ -208,31 +198,24 @@ data Closes (limit : ℕ) (m : Numbers) (p : List ℕ) (r : Progress) : Type 0 w
 closes-span : (limit : ℕ) (m : Numbers) (p : List ℕ) (low high : ℕ) → isItem limit (split dash p) ≡ true → low ≤ high → high < maskBits
     → m .0 < 2 ^ maskBits → ((k : ℕ) → itemHas k (split dash p) ≡ between low high k) → Closes limit m p (progress (withSpan m low high) Empty)
 closes-span limit m p low high e l s h f =
-    well (withSpan m low high) e refl (or-lt maskBits (m .0) (span low high) h (span-lt low high s))
+    well (withSpan m low high) e refl (or-lt maskBits (m .0) (span low high) h (lt-of-lt-of-le (span-lt low high) (pow-mono {j = maskBits} (omega arith))))
     (λ k. has-or (m .0) (span low high) k ∙ ap (λ (b : Bool). has (m .0) k || b) (span-has low high k l ∙ sym (f k)))
 
 closes : {limit : ℕ} {item : Item} {p : List ℕ} (m : Numbers) → limit ≤ maskBits → m .0 < 2 ^ maskBits → Reads limit item p → Closes limit m p (closed m item)
 unfolding closed split isItem itemHas isNumber isEmpty
 closes m l h nothing = ill refl refl
 closes {limit} m l h (number {a = a} n) =
-    let e = split-one dash a (number-free n) in
-    closes-span limit m a (value a) (value a) (ap (isItem limit) e ∙ is-number limit a n) (le-refl (value a)) (omega (arith, n .small)) h
-    (λ k. ap (itemHas k) e ∙ between-one (value a) k)
+    closes-span limit m a (value a) (value a) (rw (split-number n) (is-number limit a n)) (le-refl (value a)) (omega (arith, n .small)) h
+    (λ k. rw (split-number n) (between-one (value a) k))
 closes {limit} m l h (dashed {a = a} n) = ill (ap (isItem limit) (split-at dash a [] (number-free n)) ∙ item-second limit a [] [] refl) refl
 closes {limit} m l h (range {a = a} {b = b} n o) = go (leb (value a) (value b)) refl
   where
-    e : split dash (a ++ dash ∷ b) ≡ a ∷ b ∷ []
-    e = split-at dash a b (number-free n) ∙ ap (λ (t : List (List ℕ)). a ∷ t) (split-one dash b (number-free o))
-
-    ok : isItem limit (split dash (a ++ dash ∷ b)) ≡ leb (value a) (value b)
-    ok = ap (isItem limit) e ∙ ap₂ (λ (x y : Bool). x && y && leb (value a) (value b)) (is-number limit a n) (is-number limit b o)
-
     go : (t : Bool) → leb (value a) (value b) ≡ t
         → Closes limit m (a ++ dash ∷ b) (cond t (progress (withSpan m (value a) (value b)) Empty) (progress m Broken))
     go true t =
-        closes-span limit m (a ++ dash ∷ b) (value a) (value b) (ok ∙ t) (leb-true (value a) (value b) t) (omega (arith, o .small)) h
-        (λ k. ap (itemHas k) e)
-    go false t = ill (ok ∙ t) refl
+        closes-span limit m (a ++ dash ∷ b) (value a) (value b) (item-range n o ∙ t) (leb-true (value a) (value b) t) (omega (arith, o .small)) h
+        (λ k. ap (itemHas k) (split-range n o))
+    go false t = ill (item-range n o ∙ t) refl
 closes {limit} m l h (broken {p = p} n) = ill (ap (λ (t : List ℕ). isItem limit (split dash t)) (sym (append-nil p)) ∙ n []) refl
 
 -- ---- the whole text
@@ -273,10 +256,6 @@ known-more limit m n p q f e g =
     (maskOf-same maskBits (λ k. has (n .0) k || names q k) (λ k. has (m .0) k || names (p ++ comma ∷ q) k)
     (λ k l. rw (g k, names-more p q k f) (or-assoc (has (m .0) k) (itemHas k (split dash p)) (names q k)))))
 
--- or it ends badly
-known-none : (limit : ℕ) (m : Numbers) (p q : List ℕ) → free comma p ≡ true → isItem limit (split dash p) ≡ false → known limit m (p ++ comma ∷ q) ≡ none
-known-none limit m p q f e = rw (items-more limit p q f, e)
-
 -- a text is read as document 01 says, from wherever a reader stands in it
 reads-rest : (limit : ℕ) → limit ≤ maskBits → (rest : List ℕ) {item : Item} {p : List ℕ} (m : Numbers) → m .0 < 2 ^ maskBits → free comma p ≡ true
     → Reads limit item p → ended (readOn limit (progress m item) rest) ≡ known limit m (p ++ rest)
@@ -293,7 +272,7 @@ reads-rest limit l (x ∷ xs) {item} {p} m h f r =
         → ended (readOn limit (cond b (closed m item) (progress m (withByte limit item x))) xs) ≡ known limit m (p ++ x ∷ xs)
     go true e (well n i q g k) next more =
         rw (q, eqb-true x comma e) (next n g ∙ known-more limit m n p xs f i k)
-    go true e (ill i q) next more = rw (q, eqb-true x comma e) (broken-stays limit m xs ∙ sym (known-none limit m p xs f i))
+    go true e (ill i q) next more = rw (q, eqb-true x comma e, items-more limit p xs f, i) (broken-stays limit m xs)
     go false e c next more = more e ∙ ap (known limit m) (append-snoc p x xs)
 
 -- "one or more items split by single commas": the reader reads them all
@@ -302,32 +281,23 @@ unfolding itemsRead all
 reads-items limit text l =
     reads-rest limit l text (record { 0 = 0 }) (pow-pos maskBits) refl nothing
     ∙ ap (λ (x : ℕ). cond (isItems limit text) (some x) none)
-    (maskOf-same maskBits (λ k. has 0 k || names text k) (names text) (λ k h. rw (bit-above 0 0 k (pow-pos 0) zero-le)))
+    (maskOf-same maskBits (λ k. has 0 k || names text k) (names text) (λ k h. rw (none-in k)))
 
 -- ---- the numbers that a reader holds stay below the limit
 
-number-fits : (limit v : ℕ) → Fits limit (numberBelow limit v)
-unfolding numberBelow
-number-fits limit v = go (ltb v limit) refl
+below-fits : (limit v : ℕ) (item : Item) → (v < limit → Fits limit item) → Fits limit (cond (ltb v limit) item Broken)
+below-fits limit v item f = go (ltb v limit) refl
   where
-    go : (b : Bool) → ltb v limit ≡ b → Fits limit (cond b (NumberItem v) Broken)
-    go true e = ltb-true v limit e
-    go false e = tt
-
-range-fits : (limit a v : ℕ) → a < limit → Fits limit (rangeBelow limit a v)
-unfolding rangeBelow
-range-fits limit a v l = go (ltb v limit) refl
-  where
-    go : (b : Bool) → ltb v limit ≡ b → Fits limit (cond b (Range a v) Broken)
-    go true e = (l, ltb-true v limit e)
+    go : (b : Bool) → ltb v limit ≡ b → Fits limit (cond b item Broken)
+    go true e = f (ltb-true v limit e)
     go false e = tt
 
 digit-fits : (limit : ℕ) (item : Item) (d : ℕ) → Fits limit item → Fits limit (withDigit limit item d)
-unfolding withDigit
-digit-fits limit Empty d f = number-fits limit d
-digit-fits limit (NumberItem v) d f = number-fits limit (grown limit v d)
-digit-fits limit (Dashed a) d f = range-fits limit a d f
-digit-fits limit (Range a b) d f = range-fits limit a (grown limit b d) (f .0)
+unfolding withDigit numberBelow rangeBelow
+digit-fits limit Empty d f = below-fits limit d (NumberItem d) (λ l. l)
+digit-fits limit (NumberItem v) d f = below-fits limit (grown limit v d) (NumberItem (grown limit v d)) (λ l. l)
+digit-fits limit (Dashed a) d f = below-fits limit d (Range a d) (λ l. (f, l))
+digit-fits limit (Range a b) d f = below-fits limit (grown limit b d) (Range a (grown limit b d)) (λ l. (f .0, l))
 digit-fits limit Broken d f = tt
 
 dash-fits : (limit : ℕ) (item : Item) → Fits limit item → Fits limit (withDash item)

@@ -9,16 +9,17 @@ use native.Mathlib.Nat.{le-refl, lt-irrefl}
 use native.Mathlib.Omega.{arith}
 use lib.ListN.{length, getD, take, drop, length-drop}
 use lib.Seq.{take-all}
-use lib.Dec.{eqb, leb}
-use borrow.Author.Tests.{eq-eqb, ne-eqb, le-leb, lt-leb, leb-true}
+use lib.Dec.{eqb}
+use borrow.Author.Tests.{eq-eqb, ne-eqb, le-leb, lt-leb}
 use Rattle.rules.specs.Basics.{same}
 use Rattle.rules.specs.Machine.{nodesOk}
 use Rattle.rules.specs.Calls.{refuse, accept, unless}
-use Rattle.rules.specs.Masks.{maskBits, below, bit, has, allNodes, rank, size, maskOf}
-use Rattle.rules.specs.Text.{bang, plus, allWord, longestText, isItems, names, noText, allText, items, except, ranks, formBy, formOf, formOk, formMask, readText}
+use Rattle.rules.specs.Masks.{maskBits, below, has, allNodes, rank, size, maskOf}
+use Rattle.rules.specs.Text.{bang, plus, allWord, longestText, isItems, names, noText, allText, items, except, ranks, formBy, formOf, formOk, formMask}
+use Rattle.rules.specs.Text.{readText}
 use Rattle.rules.proofs.Lists.{both-true, fails}
-use Rattle.rules.proofs.Masks.{bit-above, rank-le, maskOf-lt, has-maskOf, maskOf-same, maskOf-narrow, maskOf-not}
-use Rattle.rules.proofs.Text.{names-below}
+use Rattle.rules.proofs.Masks.{not-in, bit-above, rank-le, maskOf-lt, has-maskOf, maskOf-same, maskOf-narrow, maskOf-not}
+use Rattle.nodelist.proofs.Items.{names-below}
 use Rattle.nodemask.specs.Ranks.{rankedIn}
 use Rattle.nodelist.specs.Reader.{itemsRead}
 use Rattle.nodelist.specs.Forms.{Below, exceptFor, rankedFor, formRead, decided}
@@ -73,7 +74,8 @@ form-ranks [] l e p = absurd (omega arith)
 form-ranks (x ∷ xs) l e p = rw (e, ne-eqb x bang (λ b. omega arith), eq-eqb x plus p)
 
 -- "then one or more items"
-pub form-items : (text : List ℕ) → 0 < length text → same text allWord ≡ false → (getD text 0 0 ≡ bang → ⊥) → (getD text 0 0 ≡ plus → ⊥) → formOf text ≡ items text
+pub form-items : (text : List ℕ) → 0 < length text → same text allWord ≡ false → (getD text 0 0 ≡ bang → ⊥) → (getD text 0 0 ≡ plus → ⊥)
+    → formOf text ≡ items text
 unfolding formOf formBy
 form-items [] l e b p = absurd (omega arith)
 form-items (x ∷ xs) l e b p = rw (e, ne-eqb x bang b, ne-eqb x plus p)
@@ -123,7 +125,7 @@ read-ranks n allowed text l small = go (isItems (size maskBits allowed) text)
 
     -- no node from N on is allowed
     past : (k : ℕ) → n ≤ k → (has allowed k && names text (rank allowed k)) ≡ false
-    past k h = ap (λ (t : Bool). t && names text (rank allowed k)) (ne-eqb (bit allowed k) 1 (λ e. omega (arith, bit-above n allowed k small h)))
+    past k h = ap (λ (t : Bool). t && names text (rank allowed k)) (not-in allowed k (bit-above n allowed k small h))
 
     go : (b : Bool)
         → rankedFor allowed (cond b (some (maskOf maskBits (names text))) none)
@@ -158,15 +160,11 @@ module _ (n allowed : ℕ) (text : List ℕ) where
   refused-length e f l = rw (e, f, lt-leb (length text) longestText l)
 
   -- else the form decides
-  pub decided-form : nodesOk n ≡ true → below n allowed ≡ true → length text ≤ longestText → readText n allowed text ≡ decided (formRead n allowed (formOf text))
+  pub decided-form : nodesOk n ≡ true → below n allowed ≡ true → length text ≤ longestText
+      → readText n allowed text ≡ decided (formRead n allowed (formOf text))
   unfolding readText formRead
   decided-form e f l = rw (e, f, le-leb (length text) longestText l) (go (formOk n allowed (formOf text)))
     where
       go : (b : Bool) → unless b 12 (accept (formMask n allowed (formOf text))) ≡ decided (cond b (some (formMask n allowed (formOf text))) none)
       go true = refl
       go false = refl
-
--- N in order is at most 64
-pub nodes-small : (n : ℕ) → nodesOk n ≡ true → n ≤ maskBits
-unfolding nodesOk
-nodes-small n e = leb-true n 64 (both-true {a = leb 1 n} e .1)

@@ -3,51 +3,73 @@
 use mathlib.Core.Path.{_≡_, refl, sym, ap, ap₂, _∙_}
 use mathlib.Core.Bool.{Bool, true, false, cond}
 use mathlib.Core.List.{List, [], _∷_, _++_, append-nil, append-assoc}
-use Prim.Native.Nat.{ℕ, suc, _+_, _-_, _^_, _/_, _≤_}
+use Prim.Native.Nat.{ℕ, zero, suc, _+_, _*_, _/_, _%_, _≤_}
 use native.Mathlib.Nat.{add-zero}
 use native.Mathlib.Numerals.{add-one}
 use native.Mathlib.Omega.{arith}
 use lib.ListN.{length, take, drop, set, length-append}
 use lib.Seq.{sets, sets-eq, length-sets, length-take-le, take-at}
-use lib.Dec.{eqb}
-use borrow.Author.Tests.{eq-eqb, ne-eqb}
+use lib.Dec.{eqb, ltb}
+use borrow.Author.Tests.{eqb-true, eq-eqb, ne-eqb}
 use Rattle.rules.specs.Basics.{keep, each, from}
 use Rattle.rules.specs.Masks.{maskBits, has}
-use Rattle.rules.specs.Text.{comma, dash, Run, runs, decimal, runText}
-use Rattle.rules.proofs.Runs.{FirstRun, no-nodes, line-length}
-use Rattle.nodelist.specs.declared.writer.NextRun.the-variants.{Run as Span}
-use Rattle.nodelist.specs.Writer.{lineBytes, FirstFrom, runOf, runsFrom, lineRun, lineOf}
+use Rattle.rules.specs.Text.{comma, dash, Run, joined, runs, decimal, runText}
+use Rattle.nodelist.specs.Writer.{lineBytes, runOf, runsFrom, lineRun, lineOf}
 
--- ---- the first run from a node on
+-- ---- the length of a line
 
--- nothing is left from a on
-pub no-run-from : (m a : ℕ) → m / 2 ^ a ≡ 0 → runsFrom m a ≡ []
-unfolding runsFrom runs
-no-run-from m a z = ap runs (no-nodes maskBits m a z)
+-- a node number has at most two digits
+decimal-length : (n : ℕ) → length (decimal n) ≤ 2
+unfolding decimal
+decimal-length n = go (ltb n 10)
+  where
+    go : (b : Bool) → length (cond b ((48 + n) ∷ []) ((48 + n / 10) ∷ (48 + n % 10) ∷ [])) ≤ 2
+    go true = omega arith
+    go false = omega arith
 
--- the trailing zeros and ones give the first run from a on
-pub run-from : (m a low ones : ℕ) → a ≤ low → FirstRun maskBits m a low ones
-    → FirstFrom m a (Span (record { 0 = low }) (record { 0 = low + ones - 1 }))
-unfolding runsFrom
-run-from m a low ones l f =
-    let q : low + ones ≡ low + ones - 1 + 1 = omega (arith, f .some) in (
-      l,
-      omega (arith, f .some),
-      omega (arith, f .some, f .within),
-      f .first ∙ ap (λ (x : ℕ). runOf low (low + ones - 1) ∷ runsFrom m x) q,
-    )
+-- a run's text has either end, and at most three bytes more than the high one
+pub run-length : (low high : ℕ) → let n = length (runText (runOf low high)) in
+    (length (decimal low) ≤ n) × (length (decimal high) ≤ n) × (n ≤ 3 + length (decimal high))
+unfolding runText
+run-length low high = go (eqb low high) refl
+  where
+    go : (b : Bool) → eqb low high ≡ b → let n = length (cond b (decimal low) (decimal low ++ dash ∷ decimal high)) in
+        (length (decimal low) ≤ n) × (length (decimal high) ≤ n) × (n ≤ 3 + length (decimal high))
+    go true e = omega (arith, ap (λ (x : ℕ). length (decimal x)) (eqb-true low high e))
+    go false e = simp length-append (omega (arith, decimal-length low))
 
--- no run is left past the last node
-pub no-run-past : (m a : ℕ) → a ≡ maskBits → runsFrom m a ≡ []
-unfolding runsFrom runs keep from
-no-run-past m a e = ap (λ (x : ℕ). runs (keep (has m) (from x (maskBits - x)))) e
+-- one node by itself takes its number
+run-single : (n : ℕ) → length (runText (runOf n n)) ≤ 2
+unfolding runText
+run-single n = rw (eq-eqb n n refl) (decimal-length n)
 
--- ---- the line
+-- a node more is at most three bytes more
+joined-length : (n : ℕ) (rs : List Run) → length (each lineRun (joined n rs)) ≤ 3 + length (each lineRun rs)
+unfolding joined each
+joined-length n [] = simp length-append (omega (arith, run-single n))
+joined-length n (r ∷ rs) = go (eqb (suc n) (r .low))
+  where
+    go : (b : Bool) → length (each lineRun (cond b (runOf n (r .high) ∷ rs) (runOf n n ∷ r ∷ rs))) ≤ 3 + length (each lineRun (r ∷ rs))
+    go true = simp length-append (omega (arith, run-length n (r .high), run-length (r .low) (r .high)))
+    go false = simp length-append (omega (arith, run-single n))
+
+-- the runs of k nodes at most take three bytes for each
+runs-length : (p : ℕ → Bool) (a k : ℕ) → length (each lineRun (runs (keep p (from a k)))) ≤ 3 * k
+unfolding runs each keep from
+runs-length p a zero = omega arith
+runs-length p a (suc k) = go (p a) (runs-length p (suc a) k)
+  where
+    go : (b : Bool) → length (each lineRun (runs (keep p (from (suc a) k)))) ≤ 3 * k
+        → length (each lineRun (runs (cond b (a ∷ keep p (from (suc a) k)) (keep p (from (suc a) k))))) ≤ 3 * suc k
+    go true h = omega (arith, joined-length a (runs (keep p (from (suc a) k))))
+    go false h = omega arith
 
 -- all runs with their commas take at most three bytes for each node
 pub line-short : (m : ℕ) → length (lineOf m) ≤ lineBytes
 unfolding lineOf runsFrom
-line-short m = line-length (has m) maskBits
+line-short m = runs-length (has m) 0 maskBits
+
+-- ---- the line
 
 -- what is put after the first i elements
 sets-front : (l : List ℕ) (i : ℕ) (vs : List ℕ) → i + length vs ≤ length l → take (i + length vs) (sets l i vs) ≡ take i l ++ vs
@@ -105,15 +127,6 @@ sets-append l i (v ∷ vs) ws =
     sets-append (set l i v) (suc i) vs ws ∙ ap (λ (x : ℕ). sets (sets (set l i v) (suc i) vs) x ws) e
 
 module _ (low high : ℕ) where
-  -- a run is not shorter than its low end
-  pub run-room : 1 + length (decimal low) ≤ length (lineRun (runOf low high))
-  unfolding runText
-  run-room = go (eqb low high)
-    where
-      go : (b : Bool) → 1 + length (decimal low) ≤ suc (length (cond b (decimal low) (decimal low ++ dash ∷ decimal high)))
-      go true = omega arith
-      go false = simp length-append (omega arith)
-
   -- one node: a comma and its number
   pub single-run : low ≡ high → lineRun (runOf low high) ≡ comma ∷ decimal low
   unfolding runText
@@ -138,7 +151,8 @@ module _ (low high : ℕ) where
     )
 
     -- with a dash and a number more they are the run of more nodes
-    pub put-double : {end : ℕ} {next : List ℕ} → (low ≡ high → ⊥) → end ≡ mid + 1 + length (decimal high) → next ≡ sets (set first mid dash) (mid + 1) (decimal high)
+    pub put-double : {end : ℕ} {next : List ℕ} → (low ≡ high → ⊥) → end ≡ mid + 1 + length (decimal high)
+        → next ≡ sets (set first mid dash) (mid + 1) (decimal high)
         → (end ≡ at + length (lineRun (runOf low high))) × (next ≡ sets line at (lineRun (runOf low high)))
     put-double e l n = (
       omega (arith, double-room e),

@@ -2,24 +2,29 @@
 -- Assumes nothing.
 use mathlib.Core.Path.{_≡_, refl, sym, ap, ap₂, _∙_}
 use mathlib.Core.Bool.{true, false}
-use mathlib.Core.List.{List, [], _∷_, _++_}
+use mathlib.Core.List.{List, [], _∷_, _++_, map, append-nil}
 use Prim.Native.Nat.{ℕ, zero, suc, _-_, _≤_, _<_}
 use native.Mathlib.Omega.{arith}
-use lib.ListN.{length, take, drop, length-take, length-drop}
+use lib.ListN.{length, take, drop, length-take, length-drop, drop-of-length-le}
 use lib.Seq.{take-length}
 use borrow.Author.Tests.{le-leb, lt-leb}
 use Rattle.rules.specs.Machine.{nodesOk}
 use Rattle.rules.specs.Masks.{maskBits, below, has}
-use Rattle.rules.specs.Basics.{keep, from}
+use Rattle.rules.specs.Basics.{keep, each, from}
 use Rattle.rules.specs.Calls.{Decision, refuse, accept}
-use Rattle.rules.specs.Text.{Written, runs, textOf, writeDecision, writing, writeText}
-use Rattle.rules.proofs.Runs.{commas-line}
-use Rattle.nodelist.specs.Writer.{runsFrom, lineOf, textWritten}
+use Rattle.rules.specs.Text.{comma, Run, runs, runText, commas, textOf, Written, writeDecision, writing, writeText}
+use Rattle.nodelist.specs.Writer.{runsFrom, lineRun, lineOf, textWritten}
 
 abbrev answered : Decision ℕ → List ℕ → Written
 answered d out = record { answer = d; output = out }
 
 -- ---- the text is the line past its first comma
+
+commas-line : (rs : List Run) → commas (map runText rs) ≡ drop 1 (each lineRun rs)
+unfolding commas each
+commas-line [] = refl
+commas-line (r ∷ []) = sym (append-nil (runText r))
+commas-line (r ∷ s ∷ rs) = ap (λ (t : List ℕ). runText r ++ (comma ∷ t)) (commas-line (s ∷ rs))
 
 -- the text of a mask is its line without the first comma
 pub text-line : (m : ℕ) → textOf m ≡ drop 1 (lineOf m)
@@ -40,10 +45,6 @@ pub text-part : (m len : ℕ) (line : List ℕ) → 0 < len → take len line �
 text-part m len line l e =
     let q : suc (len - 1) ≡ len = omega arith in
     take-tail (len - 1) line ∙ ap (λ (k : ℕ). drop 1 (take k line)) q ∙ ap (drop 1) e ∙ sym (text-line m)
-
-empty-list : (l : List ℕ) → length l ≡ 0 → l ≡ []
-empty-list [] e = refl
-empty-list (x ∷ xs) e = absurd (omega arith)
 
 -- a line that gives its first len bytes has them
 pub long-enough : (len : ℕ) (line text : List ℕ) → len ≡ length text → take len line ≡ text → len ≤ length line
@@ -75,7 +76,7 @@ module _ (m : ℕ) (out : List ℕ) where
   text-empty l =
       let z : length (textOf m) ≡ 0 = text-length m ∙ ap (λ (x : ℕ). x - 1) l in
       text-done (omega arith)
-      ∙ ap₂ (λ (k : ℕ) (t : List ℕ). answered (accept k) (t ++ drop k out)) z (empty-list (textOf m) z)
+      ∙ ap₂ (λ (k : ℕ) (t : List ℕ). answered (accept k) (t ++ drop k out)) z (drop-of-length-le (textOf m) {i = 0} (omega arith))
 
   module _ (n : ℕ) where
     -- "N outside 1 to 64 is refusal 1, .. written bits at N or above 6, both tested first"

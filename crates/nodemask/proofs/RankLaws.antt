@@ -1,77 +1,60 @@
 -- Laws of masks without one of their nodes, and of masks of ranks: wrapped round, gathered, and turned into nodes.
 -- Assumes nothing.
-use mathlib.Core.Path.{_≡_, refl, sym, ap, ap₂, _∙_, subst}
+use mathlib.Core.Path.{_≡_, refl, sym, ap, ap₂, _∙_}
 use mathlib.Core.Logic.{_≢_, _⊎_, inl, inr, ⊎-elim}
-use mathlib.Core.Bool.{Bool, true, false, not, _&&_, _||_}
-use Prim.Native.Nat.{ℕ, zero, suc, _+_, _-_, _*_, _/_, _%_, _^_, _≤_, _<_, zero-le, max}
-use native.Mathlib.Nat.{le-refl, mod-lt, zero-lt-suc, zero-mul, one-mul, div-one, pow-suc, sub-add-cancel, add-mul-div-right, add-mul-mod-self-right}
-use native.Mathlib.Nat.{mod-eq-of-lt, lt-irrefl, div-add-mod', le-of-suc-le-suc, not-suc-le-zero, add-mul}
+use mathlib.Core.Bool.{Bool, true, false, not, _&&_, _||_, and-false, or-false, or-assoc}
+use Prim.Native.Nat.{ℕ, zero, suc, _+_, _-_, _*_, _/_, _%_, _^_, _≤_, _<_, max}
+use native.Mathlib.Nat.{le-refl, mod-lt, zero-lt-suc, zero-mul, one-mul, div-one, pow-suc, sub-add-cancel, add-div-right, add-mul-mod-self-right}
+use native.Mathlib.Nat.{mod-eq-of-lt, lt-irrefl, div-add-mod', le-of-suc-le-suc, not-suc-le-zero, lt-of-not-le, lt-of-mul-lt-mul-right, pos-of-ne-zero}
 use native.Mathlib.Numerals.{lt-of-le-of-ne}
-use native.Mathlib.Decide.{ℕ-discrete}
+use native.Mathlib.Decide.{ℕ-discrete, le-ind}
 use native.Mathlib.Omega.{arith}
-use borrow.Author.Tests.{eqb-true, eqb-false, eq-eqb, ne-eqb, leb-true, leb-false}
+use borrow.Author.Tests.{eqb-true, eqb-false, eq-eqb, leb-true, leb-false, not-true}
+use lib.Arith.{lt-one}
 use lib.Bits.{bitAnd, bitOr, and-step, and-self, mask-lt}
 use lib.Count.{trailingZeros, under}
 use lib.Dec.{eqb, leb}
 use lib.Pow.{pow-pos}
 use Rattle.rules.specs.Masks.{bit, has, rank, select, lowest, insert, image, maskOf, allNodes}
-use Rattle.rules.proofs.Lists.{both-true}
-use Rattle.rules.proofs.Masks.{bit-lt, bit-cases, bit-above, bit-suc, bit-or, bit-and, bit-insert, bit-one, bit-other, bit-below, bit-shift, ext}
-use Rattle.rules.proofs.Masks.{rank-step, rank-lt, IsNode, select-at, select-is, size-pos}
-use Rattle.rules.proofs.Masks.{image-has, image-only, image-lt, below-width, has-or, maskOf-is, onto-lt}
-
--- two bits are the same where each is 1 if the other is
-bit-same : (a b n : ℕ) → (bit a n ≡ 1 → bit b n ≡ 1) → (bit b n ≡ 1 → bit a n ≡ 1) → bit a n ≡ bit b n
-bit-same a b n f g = go (bit-cases a n) (bit-cases b n)
-  where
-    go : (bit a n ≡ 0) ⊎ (bit a n ≡ 1) → (bit b n ≡ 0) ⊎ (bit b n ≡ 1) → bit a n ≡ bit b n
-    go (inl x) (inl y) = x ∙ sym y
-    go (inr x) y = x ∙ sym (f x)
-    go (inl x) (inr y) = absurd (omega (arith, g y))
+use Rattle.rules.proofs.Lists.{both-true, same-test}
+use Rattle.rules.proofs.Masks.{bit-lt, bit-cases, bit-above, bit-none, none-in, not-in, bit-suc, bit-or, bit-and, bit-insert, bit-one, bit-other, bit-below}
+use Rattle.rules.proofs.Masks.{bit-shift, same-nodes, rank-step, IsNode, none-under, select-at, select-is, size-pos}
+use Rattle.rules.proofs.Masks.{image-has, image-only, image-lt, below-width, has-or, maskOf-is, onto-lt, onto-member}
 
 -- ---- a mask without one of its nodes
 
 module _ (m n : ℕ) (h : bit m n ≡ 1) where
   -- a mask with node n is at least 2 ^ n
   pub member-le : 2 ^ n ≤ m
-  member-le = go (leb (2 ^ n) m) refl
-    where
-      go : (b : Bool) → leb (2 ^ n) m ≡ b → 2 ^ n ≤ m
-      go true e = leb-true (2 ^ n) m e
-      go false e = absurd (omega (arith, bit-above n m n (leb-false (2 ^ n) m e) (le-refl n)))
+  member-le = le-of-suc-le-suc (lt-of-not-le (λ l. absurd (omega (arith, bit-above n m n l (le-refl n)))))
 
   taken : m ≡ (m - 2 ^ n) + 2 ^ n
   taken = sym (sub-add-cancel member-le)
 
   -- without node n, a mask has no node n
   pub without-self : bit (m - 2 ^ n) n ≡ 0
-  without-self =
-      let e : m / 2 ^ n ≡ (m - 2 ^ n) / 2 ^ n + 1 =
-      ap (λ (x : ℕ). x / 2 ^ n) (taken ∙ ap (λ (x : ℕ). (m - 2 ^ n) + x) (sym (one-mul (2 ^ n)))) ∙ add-mul-div-right (m - 2 ^ n) 1 (pow-pos n) in
-      omega (arith, e, h)
+  without-self = omega (arith, h, ap (λ (x : ℕ). x / 2 ^ n) taken, add-div-right (m - 2 ^ n) (pow-pos n))
 
   -- and its other nodes are as they were
   pub without-other : (k : ℕ) → k ≢ n → bit (m - 2 ^ n) k ≡ bit m k
   without-other k d =
-      let i : insert (m - 2 ^ n) n ≡ m =
-      ap (λ (x : ℕ). (m - 2 ^ n) + (1 - x) * 2 ^ n) without-self ∙ ap (λ (x : ℕ). (m - 2 ^ n) + x) (one-mul (2 ^ n)) ∙ sym taken in
+      let i : insert (m - 2 ^ n) n ≡ m = rw without-self (omega (arith, member-le)) in
       let b : bit m k ≡ max (bit (m - 2 ^ n) k) (bit (2 ^ n) k) = ap (λ (x : ℕ). bit x k) (sym i) ∙ bit-insert (m - 2 ^ n) n k in
       omega (arith, b, bit-other n k (λ e. d (sym e)))
 
-  -- above node n, ranks are one less
-  pub without-rank : (k : ℕ) → n < k → suc (rank (m - 2 ^ n) k) ≡ rank m k
+  -- up to node n ranks are as they were
+  without-below : (k : ℕ) → k ≤ n → rank (m - 2 ^ n) k ≡ rank m k
   unfolding rank
-  without-rank zero l = absurd (omega arith)
-  without-rank (suc k) l = go (λ q. without-rank k q) (ℕ-discrete k n)
-    where
-      below : (k : ℕ) → k ≤ n → rank (m - 2 ^ n) k ≡ rank m k
-      below zero l = refl
-      below (suc k) l = ap₂ (λ (a b : ℕ). a + b) (below k (omega arith)) (without-other k (λ e. lt-irrefl n (omega arith)))
+  without-below zero l = refl
+  without-below (suc k) l = ap₂ (λ (a b : ℕ). a + b) (without-below k (omega arith)) (without-other k (λ e. lt-irrefl n (omega arith)))
 
-      go : (n < k → suc (rank (m - 2 ^ n) k) ≡ rank m k) → Dec (k ≡ n) → suc (rank (m - 2 ^ n) (suc k)) ≡ rank m (suc k)
-      go ih (yes e) =
-          omega (arith, rank-step (m - 2 ^ n) k, rank-step m k, below k (omega arith), ap (bit m) e, h, ap (bit (m - 2 ^ n)) e, without-self)
-      go ih (no d) = omega (arith, rank-step (m - 2 ^ n) k, rank-step m k, without-other k d, ih (lt-of-le-of-ne (le-of-suc-le-suc l) (λ e. d (sym e))))
+  -- above node n they are one less
+  pub without-rank : (k : ℕ) → n < k → suc (rank (m - 2 ^ n) k) ≡ rank m k
+  without-rank k l =
+      le-ind (λ (i : ℕ). suc (rank (m - 2 ^ n) i) ≡ rank m i)
+      (omega (arith, rank-step (m - 2 ^ n) n, rank-step m n, without-below n (le-refl n), h, without-self))
+      (λ i q e. omega (arith, rank-step (m - 2 ^ n) i, rank-step m i, without-other i (λ x. lt-irrefl n (omega arith))))
+      k l
 
 -- the lowest node is in the mask, and none below it is
 pub lowest-is : (w m : ℕ) → 0 < m → m < 2 ^ w → IsNode m w 0 (lowest w m)
@@ -109,11 +92,8 @@ pub record Laid (w u turns laid : ℕ) : Type 0 where
 pub laid-once : (w u : ℕ) → Laid w u 1 u
 laid-once w u = record {
   only = λ k e. (0, ap (bit u) (omega (arith, zero-mul w)) ∙ e);
-  every = λ k j l e. ap (bit u) (omega (arith, zero-mul w, ap (λ (x : ℕ). x * w) (zero-of j l))) ∙ e;
+  every = λ k j l e. ap (bit u) (omega (arith, zero-mul w, ap (λ (x : ℕ). x * w) (lt-one l))) ∙ e;
 }
-  where
-    zero-of : (j : ℕ) → j < 1 → j ≡ 0
-    zero-of j l = omega arith
 
 -- laid over itself, it is laid twice as often
 pub laid-twice : (w u turns laid step : ℕ) → step ≡ turns * w → Laid w u turns laid → Laid w u (turns + turns) (bitOr laid (laid / 2 ^ step))
@@ -129,7 +109,6 @@ laid-twice w u turns laid step q h = record { only = one; every = two }
         go (inr o) = h .only k o
         go (inl z) =
             let x = h .only (step + k) (omega (arith, bits k, bit-lt laid (step + k))) in
-            let s : (turns + x .0) * w ≡ turns * w + x .0 * w = add-mul turns (x .0) w in
             let at : k + (turns + x .0) * w ≡ (step + k) + x .0 * w = omega arith in
             (turns + x .0, ap (bit u) at ∙ x .1)
 
@@ -140,7 +119,6 @@ laid-twice w u turns laid step q h = record { only = one; every = two }
         go false f = omega (arith, bits k, h .every k j (leb-false turns j f) e, bit-lt laid (step + k))
         go true f =
             let m : turns ≤ j = leb-true turns j f in
-            let s : (turns + (j - turns)) * w ≡ turns * w + (j - turns) * w = add-mul turns (j - turns) w in
             let j-is : turns + (j - turns) ≡ j = omega arith in
             let at : (step + k) + (j - turns) * w ≡ k + j * w = omega (arith, ap (λ (x : ℕ). x * w) j-is) in
             let o : bit laid (step + k) ≡ 1 = h .every (step + k) (j - turns) (omega arith) (ap (bit u) at ∙ e) in
@@ -150,37 +128,22 @@ laid-twice w u turns laid step q h = record { only = one; every = two }
 pub laid-all : (v w u turns laid : ℕ) → 0 < w → w ≤ v → u < 2 ^ v → v ≤ turns * w → Laid w u turns laid
     → bitAnd laid (allNodes w) ≡ image u (λ b. b % w) v
 laid-all v w u turns laid p l f all h =
-    ext w (bitAnd laid (allNodes w)) (image u (λ b. b % w) v) (mask-lt laid w) (image-lt w u (λ b. b % w) v (λ b k e. mod-lt b p)) same
+    same-nodes w (bitAnd laid (allNodes w)) (image u (λ b. b % w) v) (mask-lt laid w) (image-lt w u (λ b. b % w) v (λ b k e. mod-lt b p)) to from
   where
-    low : (n : ℕ) → n < w → bit (bitAnd laid (allNodes w)) n ≡ bit laid n
-    low n k = omega (arith, bit-and laid (allNodes w) n, bit-below w n k, bit-lt laid n)
-
-    to : (n : ℕ) → n < w → bit laid n ≡ 1 → bit (image u (λ b. b % w) v) n ≡ 1
+    to : (n : ℕ) → n < w → bit (bitAnd laid (allNodes w)) n ≡ 1 → bit (image u (λ b. b % w) v) n ≡ 1
     to n k e =
-        let x = h .only n e in
+        let x = h .only n (omega (arith, bit-and laid (allNodes w) n, bit-below w n k)) in
         let at : (n + x .0 * w) % w ≡ n = add-mul-mod-self-right n (x .0) w ∙ mod-eq-of-lt k in
         ap (bit (image u (λ b. b % w) v)) (sym at) ∙ image-has u (λ b. b % w) v (n + x .0 * w) (below-width v u (n + x .0 * w) f (x .1)) (x .1)
 
-    from : (n : ℕ) → n < w → bit (image u (λ b. b % w) v) n ≡ 1 → bit laid n ≡ 1
+    from : (n : ℕ) → n < w → bit (image u (λ b. b % w) v) n ≡ 1 → bit (bitAnd laid (allNodes w)) n ≡ 1
     from n k e =
         let x = image-only u (λ b. b % w) v n e in
         let b : ℕ = x .0 in
         let parts : b / w * w + b % w ≡ b = div-add-mod' b w in
-        h .every n (b / w) (few (b / w) turns (omega (arith, x .1))) (ap (bit u) (omega (arith, x .3)) ∙ x .2)
-      where
-        few : (a c : ℕ) → a * w < c * w → a < c
-        few a c q = go (leb c a) refl
-          where
-            go : (t : Bool) → leb c a ≡ t → a < c
-            go true g =
-                let d : ℕ = a - c in
-                let s : (c + d) * w ≡ c * w + d * w = add-mul c d w in
-                let r : c + d ≡ a = omega (arith, leb-true c a g) in
-                absurd (omega (arith, ap (λ (x : ℕ). x * w) r))
-            go false g = leb-false c a g
-
-    same : (n : ℕ) → n < w → bit (bitAnd laid (allNodes w)) n ≡ bit (image u (λ b. b % w) v) n
-    same n k = low n k ∙ bit-same laid (image u (λ b. b % w) v) n (to n k) (from n k)
+        let few : b / w < turns = lt-of-mul-lt-mul-right w (omega (arith, x .1)) in
+        let o : bit laid n ≡ 1 = h .every n (b / w) few (ap (bit u) (omega (arith, x .3)) ∙ x .2) in
+        omega (arith, bit-and laid (allNodes w) n, bit-below w n k)
 
 -- ---- gathered
 
@@ -192,7 +155,7 @@ pub record Gathered (u : ℕ) (f : ℕ → ℕ) (left out : ℕ) : Type 0 where
 
 -- at first all are left
 pub gathered-none : (u : ℕ) (f : ℕ → ℕ) → Gathered u f u 0
-gathered-none u f = record { still = λ b e. e; each = λ b e. inl e; only = λ k e. absurd (omega (arith, bit-above 0 0 k (zero-lt-suc 0) zero-le)) }
+gathered-none u f = record { still = λ b e. e; each = λ b e. inl e; only = λ k e. absurd (omega (arith, bit-none k)) }
 
 -- one node more
 pub gathered-more : (u : ℕ) (f : ℕ → ℕ) (left out b : ℕ) {n next rest : ℕ} → bit left b ≡ 1 → n ≡ f b → next ≡ insert out n → rest ≡ left - 2 ^ b
@@ -237,19 +200,16 @@ gathered-more u f left out b {n} {next} {rest} m en e q g = record { still = sti
 -- at last all are out
 pub gathered-all : (w u : ℕ) (f : ℕ → ℕ) (left out : ℕ) → u < 2 ^ w → out < 2 ^ w → ((b : ℕ) → b < w → f b < w) → left ≡ 0 → Gathered u f left out
     → out ≡ image u f w
-gathered-all w u f left out hu ho hf z g = ext w out (image u f w) ho (image-lt w u f w (λ b l e. hf b l)) same
+gathered-all w u f left out hu ho hf z g = same-nodes w out (image u f w) ho (image-lt w u f w (λ b l e. hf b l)) to from
   where
     none-left : (b : ℕ) → bit left b ≡ 1 → ⊥
-    none-left b e = omega (arith, ap (λ (x : ℕ). bit x b) z, bit-above 0 0 b (zero-lt-suc 0) zero-le)
+    none-left b e = omega (arith, ap (λ (x : ℕ). bit x b) z, bit-none b)
 
-    to : (n : ℕ) → bit out n ≡ 1 → bit (image u f w) n ≡ 1
-    to n e = let x = g .only n e in ap (bit (image u f w)) (sym (x .2)) ∙ image-has u f w (x .0) (below-width w u (x .0) hu (x .1)) (x .1)
+    to : (n : ℕ) → n < w → bit out n ≡ 1 → bit (image u f w) n ≡ 1
+    to n l e = let x = g .only n e in ap (bit (image u f w)) (sym (x .2)) ∙ image-has u f w (x .0) (below-width w u (x .0) hu (x .1)) (x .1)
 
-    from : (n : ℕ) → bit (image u f w) n ≡ 1 → bit out n ≡ 1
-    from n e = let x = image-only u f w n e in ⊎-elim (λ o. absurd (none-left (x .0) o)) (λ o. ap (bit out) (sym (x .3)) ∙ o) (g .each (x .0) (x .2))
-
-    same : (n : ℕ) → n < w → bit out n ≡ bit (image u f w) n
-    same n l = bit-same out (image u f w) n (to n) (from n)
+    from : (n : ℕ) → n < w → bit (image u f w) n ≡ 1 → bit out n ≡ 1
+    from n l e = let x = image-only u f w n e in ⊎-elim (λ o. absurd (none-left (x .0) o)) (λ o. ap (bit out) (sym (x .3)) ∙ o) (g .each (x .0) (x .2))
 
 -- ---- the nodes of a set by their ranks
 
@@ -263,18 +223,14 @@ ranked-split w set ranks t i n = go (ℕ-discrete n t) (leb t n) refl
   where
     -- one digit at place t
     digit : (d k : ℕ) → d < 2 → k ≢ t → has (d * 2 ^ t) k ≡ false
-    digit zero k l h = rw (zero-mul (2 ^ t)) (ne-eqb (bit 0 k) 1 (λ e. absurd (omega (arith, bit-above 0 0 k (zero-lt-suc 0) zero-le))))
-    digit (suc zero) k l h = rw (one-mul (2 ^ t)) (ne-eqb (bit (2 ^ t) k) 1 (λ e. absurd (omega (arith, bit-other t k (λ x. h (sym x))))))
+    digit zero k l h = rw (zero-mul (2 ^ t)) (none-in k)
+    digit (suc zero) k l h = rw (one-mul (2 ^ t)) (not-in (2 ^ t) k (bit-other t k (λ x. h (sym x))))
     digit (suc (suc d)) k l h = absurd (not-suc-le-zero (le-of-suc-le-suc (le-of-suc-le-suc l)))
 
     own : (d : ℕ) → d < 2 → has (d * 2 ^ t) t ≡ eqb d 1
-    own zero l = rw (zero-mul (2 ^ t)) (ne-eqb (bit 0 t) 1 (λ e. absurd (omega (arith, bit-above 0 0 t (zero-lt-suc 0) zero-le))))
+    own zero l = rw (zero-mul (2 ^ t)) (none-in t)
     own (suc zero) l = rw (one-mul (2 ^ t)) (eq-eqb (bit (2 ^ t) t) 1 (bit-one t))
     own (suc (suc d)) l = absurd (not-suc-le-zero (le-of-suc-le-suc (le-of-suc-le-suc l)))
-
-    or-false : (a : Bool) → (a || false) ≡ a
-    or-false true = refl
-    or-false false = refl
 
     small : ranks % 2 < 2
     small = mod-lt ranks (zero-lt-suc 1)
@@ -286,26 +242,21 @@ ranked-split w set ranks t i n = go (ℕ-discrete n t) (leb t n) refl
           eq-eqb (bit set t) 1 (i .member),
           i .ranked,
           own (ranks % 2) small,
-          ne-eqb (bit (set - 2 ^ t) t) 1 (λ o. absurd (omega (arith, without-self set t (i .member)))),
+          not-in (set - 2 ^ t) t (without-self set t (i .member)),
         )
         (ap (λ (x : ℕ). eqb (x % 2) 1) (div-one ranks) ∙ sym (or-false (eqb (ranks % 2) 1))))
     go (no d) true x =
         let above : t < n = lt-of-le-of-ne (leb-true t n x) (λ e. d (sym e)) in
         rw (digit (ranks % 2) n small d, without-other set t (i .member) n d, ← without-rank set t (i .member) n above, bit-suc ranks (rank (set - 2 ^ t) n))
     go (no d) false x =
-        let off : bit set n ≡ 0 = ⊎-elim (λ z. z) (λ o. absurd (omega (arith, rank-lt set (leb-false t n x) o, i .ranked))) (bit-cases set n) in
-        rw (digit (ranks % 2) n small d, without-other set t (i .member) n d, off)
+        rw (digit (ranks % 2) n small d, without-other set t (i .member) n d, none-under set t n (i .ranked) (leb-false t n x))
 
 -- no rank is among none, and an empty set has no nodes
 pub ranked-none : (set ranks n : ℕ) → (not (eqb set 0) && not (eqb ranks 0)) ≡ false → byRank set ranks n ≡ false
 ranked-none set ranks n h = go (eqb set 0) refl (eqb ranks 0) refl h
   where
     empty : (m k : ℕ) → m ≡ 0 → has m k ≡ false
-    empty m k z = ne-eqb (bit m k) 1 (λ o. absurd (omega (arith, ap (λ (x : ℕ). bit x k) z, bit-above 0 0 k (zero-lt-suc 0) zero-le)))
-
-    and-false : (a : Bool) → (a && false) ≡ false
-    and-false true = refl
-    and-false false = refl
+    empty m k z = rw z (none-in k)
 
     go : (a : Bool) → eqb set 0 ≡ a → (b : Bool) → eqb ranks 0 ≡ b → (not a && not b) ≡ false → byRank set ranks n ≡ false
     go true e b f x = rw (empty set n (eqb-true set 0 e))
@@ -314,35 +265,23 @@ ranked-none set ranks n h = go (eqb set 0) refl (eqb ranks 0) refl h
 
 -- a test that nodes and bits are left
 pub both-left : (set ranks : ℕ) → (not (eqb set 0) && not (eqb ranks 0)) ≡ true → 0 < set
-both-left set ranks h = go (eqb set 0) refl (both-true {a = not (eqb set 0)} {b = not (eqb ranks 0)} h .0)
-  where
-    go : (a : Bool) → eqb set 0 ≡ a → not a ≡ true → 0 < set
-    go false e x = omega (arith, eqb-false set 0 e)
-    go true e x = absurd (let z : _≡_ {A = ℕ} 0 1 = cc in omega arith)
+both-left set ranks h = pos-of-ne-zero (eqb-false set 0 (not-true (eqb set 0) (both-true {a = not (eqb set 0)} {b = not (eqb ranks 0)} h .0)))
 
 -- at first nothing is out
 pub ranked-start : (set ranks n : ℕ) → (has 0 n || byRank set ranks n) ≡ byRank set ranks n
-ranked-start set ranks n = rw (ne-eqb (bit 0 n) 1 (λ o. absurd (omega (arith, bit-above 0 0 n (zero-lt-suc 0) zero-le))))
+ranked-start set ranks n = rw (none-in n)
 
 -- one turn of the loop: the lowest node takes the lowest bit
 pub ranked-more : (w set ranks out n : ℕ) {t d next rest : ℕ} → 0 < set → set < 2 ^ w → t ≡ lowest w set → d ≡ ranks % 2 * 2 ^ t
     → rest ≡ set - 2 ^ lowest w set → next ≡ bitOr out d → (has next n || byRank rest (ranks / 2) n) ≡ (has out n || byRank set ranks n)
 ranked-more w set ranks out n {t} {d} {next} {rest} p h et ed er en =
     rw (en, has-or out d n, er, ranked-split w set ranks (lowest w set) (lowest-is w set p h) n, ed, et) (or-assoc (has out n) _ _)
-  where
-    or-assoc : (a b c : Bool) → ((a || b) || c) ≡ (a || (b || c))
-    or-assoc true b c = refl
-    or-assoc false b c = refl
 
 -- nothing is left: what is out is all
 pub ranked-all : (w set ranks left bits out : ℕ) → out < 2 ^ w → (not (eqb left 0) && not (eqb bits 0)) ≡ false
     → ((n : ℕ) → (has out n || byRank left bits n) ≡ byRank set ranks n) → out ≡ maskOf w (byRank set ranks)
 ranked-all w set ranks left bits out h e q =
     maskOf-is w out (byRank set ranks) h (λ n l. sym (or-false (has out n)) ∙ ap (λ (b : Bool). has out n || b) (sym (ranked-none left bits n e)) ∙ q n)
-  where
-    or-false : (a : Bool) → (a || false) ≡ a
-    or-false true = refl
-    or-false false = refl
 
 -- ---- folded and remapped by ranks
 
@@ -354,13 +293,10 @@ image-ranked w u f r m p h g = sym (maskOf-is w (image u f w) (byRank m ranks) (
     ranks : ℕ
     ranks = image u (λ b. r b % rank m w) w
 
-    node : (b : ℕ) → IsNode m w (r b % rank m w) (f b)
-    node b = subst (IsNode m w (r b % rank m w)) (sym (g b)) (select-is w m (r b % rank m w) (mod-lt (r b) (size-pos w m p h)))
-
     to : (n : ℕ) → bit (image u f w) n ≡ 1 → byRank m ranks n ≡ true
     to n e =
         let x = image-only u f w n e in
-        let i = node (x .0) in
+        let i = onto-member w u f r m p h g (x .0) in
         let o : bit ranks (r (x .0) % rank m w) ≡ 1 = image-has u (λ b. r b % rank m w) w (x .0) (x .1) (x .2) in
         rw (sym (x .3)) (rw (eq-eqb (bit m (f (x .0))) 1 (i .member), i .ranked) (eq-eqb (bit ranks (r (x .0) % rank m w)) 1 o))
 
@@ -372,30 +308,22 @@ image-ranked w u f r m p h g = sym (maskOf-is w (image u f w) (byRank m ranks) (
         ap (bit (image u f w)) (sym same) ∙ image-has u f w (x .0) (x .1) (x .2)
 
     same : (n : ℕ) → n < w → has (image u f w) n ≡ byRank m ranks n
-    same n l = go (bit-cases (image u f w) n) (byRank m ranks n) refl
-      where
-        go : (bit (image u f w) n ≡ 0) ⊎ (bit (image u f w) n ≡ 1) → (b : Bool) → byRank m ranks n ≡ b → has (image u f w) n ≡ b
-        go (inr o) b e = eq-eqb (bit (image u f w) n) 1 o ∙ sym (to n o) ∙ e
-        go (inl z) true e = absurd (omega (arith, from n l e))
-        go (inl z) false e = ne-eqb (bit (image u f w) n) 1 (λ o. absurd (omega arith))
+    same n l = same-test (λ t. to n (eqb-true (bit (image u f w) n) 1 t)) (λ t. eq-eqb (bit (image u f w) n) 1 (from n l t))
 
 -- the image of an image
 pub image-image : (w u : ℕ) (f g : ℕ → ℕ) → ((b : ℕ) → b < w → f b < w) → ((b : ℕ) → g b < w) → image (image u f w) g w ≡ image u (λ b. g (f b)) w
 image-image w u f g hf hg =
-    ext w (image (image u f w) g w) (image u (λ b. g (f b)) w)
-    (image-lt w (image u f w) g w (λ b l e. hg b)) (image-lt w u (λ b. g (f b)) w (λ b l e. hg (f b))) same
+    same-nodes w (image (image u f w) g w) (image u (λ b. g (f b)) w)
+    (image-lt w (image u f w) g w (λ b l e. hg b)) (image-lt w u (λ b. g (f b)) w (λ b l e. hg (f b))) to from
   where
-    to : (n : ℕ) → bit (image (image u f w) g w) n ≡ 1 → bit (image u (λ b. g (f b)) w) n ≡ 1
-    to n e =
+    to : (n : ℕ) → n < w → bit (image (image u f w) g w) n ≡ 1 → bit (image u (λ b. g (f b)) w) n ≡ 1
+    to n l e =
         let x = image-only (image u f w) g w n e in
         let y = image-only u f w (x .0) (x .2) in
         let at : g (f (y .0)) ≡ n = ap g (y .3) ∙ x .3 in
         ap (bit (image u (λ b. g (f b)) w)) (sym at) ∙ image-has u (λ b. g (f b)) w (y .0) (y .1) (y .2)
 
-    from : (n : ℕ) → bit (image u (λ b. g (f b)) w) n ≡ 1 → bit (image (image u f w) g w) n ≡ 1
-    from n e =
+    from : (n : ℕ) → n < w → bit (image u (λ b. g (f b)) w) n ≡ 1 → bit (image (image u f w) g w) n ≡ 1
+    from n l e =
         let x = image-only u (λ b. g (f b)) w n e in
         ap (bit (image (image u f w) g w)) (sym (x .3)) ∙ image-has (image u f w) g w (f (x .0)) (hf (x .0) (x .1)) (image-has u f w (x .0) (x .1) (x .2))
-
-    same : (n : ℕ) → n < w → bit (image (image u f w) g w) n ≡ bit (image u (λ b. g (f b)) w) n
-    same n l = bit-same (image (image u f w) g w) (image u (λ b. g (f b)) w) n (to n) (from n)

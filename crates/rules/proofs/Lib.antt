@@ -14,6 +14,3 @@ pub mod Near
 pub mod Pages
 pub mod Calls
 pub mod Book
-pub mod Text
-pub mod Runs
-pub mod ReadBack

@@ -3,20 +3,23 @@
 use Prim.Native.Nat.{suc-le-suc, ℕ, zero, suc, _+_, _%_, _≤_, _<_}
 use mathlib.Core.Path.{_≡_, refl, sym, ap, ap₂, subst, _∙_}
 use mathlib.Core.Logic.{_↔_, ⊎-elim}
-use mathlib.Core.Bool.{Bool, true, false, not, _&&_, _||_, cond, true≢false, false≢true}
+use mathlib.Core.Bool.{Bool, true, false, not, _&&_, _||_, cond, true≢false, false≢true, and-eq-true-iff, or-true}
+use mathlib.Mathlib.Data.Bool.Basic.{eq-false-of-not-eq-true}
 use mathlib.Core.Option.{none, some}
-use mathlib.Core.List.{List, [], _∷_, _++_, map, append-assoc, append-nil, List·Memᴰ, List·Memᴰ·head, List·Memᴰ·tail, List·Memᴰ·not-nil, List·Memᴰ·cases-cons, List·Memᴰ·append-cases, Memᴰ·append-left, Memᴰ·append-right, Memᴰ·cast}
+use mathlib.Core.List.{List, [], _∷_, _++_, map, append-assoc, append-nil, List·Memᴰ, List·Memᴰ·head, List·Memᴰ·tail, List·Memᴰ·not-nil}
+use mathlib.Core.List.{List·Memᴰ·cases-cons, List·Memᴰ·append-cases, Memᴰ·append-left, Memᴰ·append-right, Memᴰ·map, Memᴰ·of-map}
 use native.Mathlib.Nat.{not-suc-le-zero, le-of-suc-le-suc, zero-lt-suc, add-zero, eq-or-lt-of-le}
 use native.Mathlib.Omega.{arith}
 use lib.ListN.{length, getD, take, drop, take-append-drop}
-use Rattle.rules.specs.Basics.{all, allAt, any, keep, first, firstOr, isEmpty, each, from, around, sum}
+use lib.Dec.{leb}
+use borrow.Author.Tests.{leb-true, le-leb}
+use Rattle.rules.specs.Basics.{all, allAt, any, keep, first, firstOr, isEmpty, each, from, around, sum, between}
 
 -- ---- tests
 
 -- two tests that hold together
 pub both-true : {a b : Bool} → (a && b) ≡ true → (a ≡ true) × (b ≡ true)
-both-true {a = true} {b = b} h = (refl, h)
-both-true {a = false} {b = b} h = absurd (false≢true h)
+both-true {a} {b} h = and-eq-true-iff a b .0 h
 
 -- two tests that each hold, hold together
 pub both-hold : {a b : Bool} → a ≡ true → b ≡ true → (a && b) ≡ true
@@ -35,8 +38,15 @@ same-test {a = false} {b = false} f g = refl
 
 -- a test that does not hold fails
 pub fails : {a : Bool} → (a ≡ true → ⊥) → a ≡ false
-fails {a = true} h = absurd (h refl)
-fails {a = false} h = refl
+fails h = eq-false-of-not-eq-true h
+
+-- a number between two is at least the one and at most the other
+pub between-true : (low high x : ℕ) → between low high x ≡ true → (low ≤ x) × (x ≤ high)
+between-true low high x h = let b = both-true {a = leb low x} h in (leb-true low x (b .0), leb-true x high (b .1))
+
+-- and the other way
+pub true-between : (low high x : ℕ) → low ≤ x → x ≤ high → between low high x ≡ true
+true-between low high x l h = both-hold (le-leb low x l) (le-leb x high h)
 
 -- ---- members
 
@@ -114,6 +124,12 @@ module _ {A : Type 0} where
       go true e h ih = (y, List·Memᴰ·head refl, e)
       go false e h ih = let r = ih h in (r .0, List·Memᴰ·tail (r .1), r .2)
 
+  -- one of the list passes: some one does
+  pub true-any : (p : A → Bool) {xs : List A} {x : A} → x ∈ xs → p x ≡ true → any p xs ≡ true
+  unfolding any
+  true-any p {xs = y ∷ ys} (List·Memᴰ·head q) t = rw (ap p (sym q) ∙ t)
+  true-any p {xs = y ∷ ys} (List·Memᴰ·tail m) t = rw (true-any p m t) (or-true (p y))
+
   -- none passes: each one of the list fails
   pub any-false : (p : A → Bool) {xs : List A} {x : A} → any p xs ≡ false → x ∈ xs → p x ≡ false
   unfolding any
@@ -138,11 +154,21 @@ module _ {A : Type 0} where
   true-all p [] h = refl
   true-all p (y ∷ ys) h = rw (h y (List·Memᴰ·head refl)) (true-all p ys (λ x m. h x (List·Memᴰ·tail m)))
 
+  -- what holds of every one of two lists holds of every one of both end to end
+  pub all-append : (p : A → Bool) (xs ys : List A) → all p xs ≡ true → all p ys ≡ true → all p (xs ++ ys) ≡ true
+  all-append p xs ys h l = true-all p (xs ++ ys) (λ x m. ⊎-elim (λ i. all-true p h i) (λ i. all-true p l i) (List·Memᴰ·append-cases xs m))
+
   -- where every one passes, every one is kept
   pub all-keep : (p : A → Bool) (xs : List A) → all p xs ≡ true → keep p xs ≡ xs
   unfolding all keep
   all-keep p [] h = refl
   all-keep p (y ∷ ys) h = let b = both-true {a = p y} h in rw (b .0) (ap (λ (l : List A). y ∷ l) (all-keep p ys (b .1)))
+
+  -- where none passes, none is kept
+  pub none-keep : (p : A → Bool) (xs : List A) → ((x : A) → x ∈ xs → p x ≡ false) → keep p xs ≡ []
+  unfolding keep
+  none-keep p [] h = refl
+  none-keep p (y ∷ ys) h = rw (h y (List·Memᴰ·head refl)) (none-keep p ys (λ x m. h x (List·Memᴰ·tail m)))
 
   -- nothing is kept exactly when none passes
   pub empty-keep : (p : A → Bool) (xs : List A) → isEmpty (keep p xs) ≡ not (any p xs)
@@ -198,12 +224,6 @@ module _ {A : Type 0} where
       go true ih = (λ e. absurd (let z : _≡_ {A = ℕ} 0 1 = cc in omega arith), λ e. absurd (true≢false e))
       go false ih = ih
 
-  -- the first, else d, of a list that has one is the first
-  pub firstOr-first : (xs : List A) (d : A) {x : A} → first xs ≡ some x → firstOr xs d ≡ x
-  unfolding first firstOr
-  firstOr-first [] d h = absurd (let z : _≡_ {A = ℕ} 0 1 = cc in omega arith)
-  firstOr-first (y ∷ ys) d h = cc
-
   -- a list that is not empty has a first
   pub first-some : (xs : List A) (d : A) → isEmpty xs ≡ false → first xs ≡ some (firstOr xs d)
   unfolding first firstOr isEmpty
@@ -237,17 +257,11 @@ module _ {A B : Type 0} where
 
   -- one of map f xs is f x for some x
   pub map-member : (f : A → B) (xs : List A) {y : B} → y ∈ map f xs → (x : A) × (x ∈ xs) × (y ≡ f x)
-  map-member f [] h = absurd (List·Memᴰ·not-nil h)
-  map-member f (x ∷ xs) h =
-      ⊎-elim
-      (λ e. (x, List·Memᴰ·head refl, e))
-      (λ m. let r = map-member f xs m in (r .0, List·Memᴰ·tail (r .1), r .2))
-      (List·Memᴰ·cases-cons h)
+  map-member f xs h = let r = Memᴰ·of-map f xs h in (r .0, r .1, sym (r .2))
 
   -- f x, for an x of the list, is one of map f xs
   pub member-map : (f : A → B) {xs : List A} {x : A} → x ∈ xs → f x ∈ map f xs
-  member-map f (List·Memᴰ·head q) = List·Memᴰ·head (ap f q)
-  member-map f (List·Memᴰ·tail m) = List·Memᴰ·tail (member-map f m)
+  member-map f m = Memᴰ·map f m
 
 -- a number in from a k is from a on below a + k
 pub from-member : (a k : ℕ) {n : ℕ} → n ∈ from a k → (a ≤ n) × (n < a + k)
@@ -280,14 +294,6 @@ around-member n c (suc k) h =
     (λ e. (0, omega arith, e ∙ ap (λ (y : ℕ). y % n) (sym (add-zero c))))
     (λ m. let r = around-member n (suc c) k m in (suc (r .0), omega (arith, r .1), r .2 ∙ ap (λ (y : ℕ). y % n) (omega arith)))
     (List·Memᴰ·cases-cons h)
-
--- the position of each of the k numbers is in around n c k
-pub member-around : (n c k i : ℕ) → i < k → (c + i) % n ∈ around n c k
-unfolding around
-member-around n c zero i h = absurd (omega arith)
-member-around n c (suc k) zero h = List·Memᴰ·head (ap (λ (y : ℕ). y % n) (add-zero c))
-member-around n c (suc k) (suc i) h =
-    List·Memᴰ·tail (Memᴰ·cast (ap (λ (y : ℕ). y % n) (omega arith)) (member-around n (suc c) k i (omega arith)))
 
 -- ---- a test of each entry with its number
 

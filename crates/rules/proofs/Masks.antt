@@ -2,16 +2,16 @@
 -- Assumes nothing.
 use mathlib.Core.Path.{_≡_, refl, sym, ap, ap₂, _∙_, subst}
 use mathlib.Core.Logic.{_⊎_, inl, inr, ⊎-elim}
-use mathlib.Core.Bool.{Bool, true, false, not, _&&_, _||_, cond}
+use mathlib.Core.Bool.{Bool, true, false, not, _&&_, _||_, cond, and-false}
 use Prim.Native.Nat.{ℕ, zero, suc, _+_, _-_, _*_, _/_, _%_, _^_, _≤_, _<_, zero-le, suc-le-suc, min, max}
-use native.Mathlib.Nat.{le-refl, le-trans, lt-of-lt-of-le, lt-of-le-of-lt, le-of-suc-le-suc, not-suc-le-zero, zero-lt-suc, zero-add, add-zero, add-comm, one-mul, zero-mul, pow-suc, mod-lt, mod-eq-of-lt, div-eq-of-lt, mod-one}
-use native.Mathlib.Numerals.{add-one, one-add}
+use native.Mathlib.Nat.{eq-zero-or-pos, pos-of-ne-zero, le-refl, le-trans, lt-of-lt-of-le, lt-of-le-of-lt, le-of-suc-le-suc, not-suc-le-zero, zero-lt-suc}
+use native.Mathlib.Nat.{zero-add, add-zero, add-comm, one-mul, zero-mul, mod-lt, mod-eq-of-lt, div-eq-of-lt, mod-one}
+use native.Mathlib.Numerals.{one-add}
 use native.Mathlib.Omega.{arith}
-use lib.Arith.{digits-mod}
 use native.Mathlib.Decide.{le-ind, ℕ-discrete, decLt}
-use native.Mathlib.Nat.{add-suc, lt-of-not-le, add-sub-of-le, eq-or-lt-of-le, div-self, div-one, lt-irrefl, div-lt-iff-lt-mul, sub-le, mod-add-mod, mod-self}
+use native.Mathlib.Nat.{add-suc, lt-of-not-le, eq-or-lt-of-le, div-self, div-one, lt-irrefl, div-lt-iff-lt-mul, sub-le}
 use lib.Pow.{not-mod, ones-lt, pow-pos, pow-mono, pow-lt, pow-add, mod-pow-add, shr-shr, shr-le}
-use lib.Bits.{bitXor, differ, xor-step, xor-shr, xor-add-and, bitAnd, bitOr, and-step, or-step, and-shr, or-shr, and-mask, and-high, or-lt, and-le-l, or-add-and, and-comm}
+use lib.Bits.{bitAnd, bitOr, and-step, or-step, and-shr, or-shr, and-mask, and-high, or-lt, and-le-l, or-add-and, and-comm}
 use lib.Count.{ones, ones-cat, trailingZeros, under}
 use lib.Dec.{eqb, ltb}
 use borrow.Author.Tests.{eqb-true, eqb-false, eq-eqb, ne-eqb, lt-ltb, le-ltb}
@@ -23,18 +23,34 @@ use Rattle.rules.specs.Masks.{bit, has, below, rank, select, insert, ima
 pub bit-lt : (m n : ℕ) → bit m n < 2
 bit-lt m n = mod-lt (m / 2 ^ n) (zero-lt-suc 1)
 
-two-cases : (d : ℕ) → d < 2 → (d ≡ 0) ⊎ (d ≡ 1)
-two-cases zero h = inl refl
-two-cases (suc zero) h = inr refl
-two-cases (suc (suc d)) h = absurd (not-suc-le-zero (le-of-suc-le-suc (le-of-suc-le-suc h)))
-
 -- a bit is 0, or it is 1
 pub bit-cases : (m n : ℕ) → (bit m n ≡ 0) ⊎ (bit m n ≡ 1)
-bit-cases m n = two-cases (bit m n) (bit-lt m n)
+bit-cases m n = ⊎-elim (λ z. inl z) (λ p. inr (omega arith)) (eq-zero-or-pos (bit m n))
+
+-- two bits are the same where each is 1 if the other is
+pub bit-same : (a b n : ℕ) → (bit a n ≡ 1 → bit b n ≡ 1) → (bit b n ≡ 1 → bit a n ≡ 1) → bit a n ≡ bit b n
+bit-same a b n f g = go (bit-cases a n) (bit-cases b n)
+  where
+    go : (bit a n ≡ 0) ⊎ (bit a n ≡ 1) → (bit b n ≡ 0) ⊎ (bit b n ≡ 1) → bit a n ≡ bit b n
+    go (inl x) (inl y) = x ∙ sym y
+    go (inl x) (inr y) = absurd (omega (arith, g y))
+    go (inr x) y = x ∙ sym (f x)
+
+-- a bit 0 stands for a node that is not in the mask
+pub not-in : (m n : ℕ) → bit m n ≡ 0 → has m n ≡ false
+not-in m n z = ne-eqb (bit m n) 1 (λ e. omega arith)
 
 -- no bit of a number of w bits stands at w or above
 pub bit-above : (w m n : ℕ) → m < 2 ^ w → w ≤ n → bit m n ≡ 0
 bit-above w m n h l = ap (λ (x : ℕ). x % 2) (div-eq-of-lt (lt-of-lt-of-le h (pow-mono l)))
+
+-- the empty mask has no bit
+pub bit-none : (n : ℕ) → bit 0 n ≡ 0
+bit-none n = bit-above 0 0 n (zero-lt-suc 0) zero-le
+
+-- and no node
+pub none-in : (n : ℕ) → has 0 n ≡ false
+none-in n = not-in 0 n (bit-none n)
 
 -- one digit more: the low n + 1 digits are bit n and the low n
 pub mod-suc : (m n : ℕ) → m % 2 ^ suc n ≡ bit m n * 2 ^ n + m % 2 ^ n
@@ -52,45 +68,42 @@ same-low (suc w) a b h =
 pub ext : (w a b : ℕ) → a < 2 ^ w → b < 2 ^ w → ((n : ℕ) → n < w → bit a n ≡ bit b n) → a ≡ b
 ext w a b ha hb h = sym (mod-eq-of-lt ha) ∙ same-low w a b h ∙ mod-eq-of-lt hb
 
+-- masks of w bits are the same where each has the nodes of the other
+pub same-nodes : (w a b : ℕ) → a < 2 ^ w → b < 2 ^ w → ((n : ℕ) → n < w → bit a n ≡ 1 → bit b n ≡ 1)
+    → ((n : ℕ) → n < w → bit b n ≡ 1 → bit a n ≡ 1) → a ≡ b
+same-nodes w a b ha hb f g = ext w a b ha hb (λ n l. bit-same a b n (f n l) (g n l))
+
 -- ---- `&`, `|`, shifted ones
-
-and-digit : (a b : ℕ) → bitAnd a b % 2 ≡ min (a % 2) (b % 2)
-and-digit a b =
-    ap (λ (x : ℕ). x % 2) (and-step a b)
-    ∙ digits-mod (bitAnd (a / 2) (b / 2)) (omega (arith, mod-lt a (zero-lt-suc 1)))
-
-or-digit : (a b : ℕ) → bitOr a b % 2 ≡ max (a % 2) (b % 2)
-or-digit a b =
-    ap (λ (x : ℕ). x % 2) (or-step a b)
-    ∙ digits-mod (bitOr (a / 2) (b / 2)) (omega (arith, mod-lt a (zero-lt-suc 1), mod-lt b (zero-lt-suc 1)))
 
 -- a bit of `a & b` is in both
 pub bit-and : (a b n : ℕ) → bit (bitAnd a b) n ≡ min (bit a n) (bit b n)
-bit-and a b n = ap (λ (x : ℕ). x % 2) (and-shr a b n) ∙ and-digit (a / 2 ^ n) (b / 2 ^ n)
+bit-and a b n = omega (arith, and-shr a b n, and-step (a / 2 ^ n) (b / 2 ^ n))
 
 -- a bit of `a | b` is in one of them
 pub bit-or : (a b n : ℕ) → bit (bitOr a b) n ≡ max (bit a n) (bit b n)
-bit-or a b n = ap (λ (x : ℕ). x % 2) (or-shr a b n) ∙ or-digit (a / 2 ^ n) (b / 2 ^ n)
+bit-or a b n = omega (arith, or-shr a b n, or-step (a / 2 ^ n) (b / 2 ^ n))
 
 -- `m & (1 << n)` is bit n, in its place
 pub and-one : (m n : ℕ) → bitAnd m (2 ^ n) ≡ bit m n * 2 ^ n
-and-one m n = ap (bitAnd m) (sym e) ∙ and-high m 1 n
-  where
-    e : 2 ^ (1 + n) - 2 ^ n ≡ 2 ^ n
-    e = omega (arith, pow-add 2 1 n)
+and-one m n =
+    let e : 2 ^ (1 + n) - 2 ^ n ≡ 2 ^ n = omega (arith, pow-add 2 1 n) in
+    rw e at (and-high m 1 n)
 
 -- `m | (1 << n)` is m with node n
 pub or-one : (m n : ℕ) → bitOr m (2 ^ n) ≡ insert m n
-or-one m n = go (bit m n) (bit-lt m n) (or-add-and m (2 ^ n) ∙ refl) (and-one m n)
-  where
-    go : (d : ℕ) → d < 2 → bitOr m (2 ^ n) + bitAnd m (2 ^ n) ≡ m + 2 ^ n → bitAnd m (2 ^ n) ≡ d * 2 ^ n → bitOr m (2 ^ n) ≡ m + (1 - d) * 2 ^ n
-    go zero h e f = omega arith
-    go (suc zero) h e f = omega arith
-    go (suc (suc d)) h e f = absurd (not-suc-le-zero (le-of-suc-le-suc (le-of-suc-le-suc h)))
+or-one m n =
+    ⊎-elim
+    (λ (z : bit m n ≡ 0). rw z (omega (arith, or-add-and m (2 ^ n), rw z at (and-one m n))))
+    (λ (o : bit m n ≡ 1). rw o (omega (arith, or-add-and m (2 ^ n), rw o at (and-one m n))))
+    (bit-cases m n)
 
 -- `1 << n`
 pub one-shifted : (w n : ℕ) → n < w → (1 * 2 ^ n) % 2 ^ w ≡ 2 ^ n
 one-shifted w n h = ap (λ (x : ℕ). x % 2 ^ w) (one-mul (2 ^ n)) ∙ mod-eq-of-lt (pow-lt h)
+
+-- `m | (1 << n)`, in words of w bits
+pub or-shifted : (w m n : ℕ) → n < w → bitOr m ((1 * 2 ^ n) % 2 ^ w) ≡ insert m n
+or-shifted w m n h = ap (bitOr m) (one-shifted w n h) ∙ or-one m n
 
 -- ---- ranks and sizes are counts of ones
 
@@ -106,13 +119,8 @@ ones-low m zero = ap ones (mod-one m)
 ones-low m (suc n) =
     ap ones (mod-suc m n)
     ∙ ones-cat n (bit m n) (m % 2 ^ n) (mod-lt m (pow-pos n))
-    ∙ ap₂ (λ (x y : ℕ). x + y) (one-digit (bit m n) (bit-lt m n)) (ones-low m n)
+    ∙ ap₂ (λ (x y : ℕ). x + y) (⊎-elim (λ (z : bit m n ≡ 0). rw z) (λ (o : bit m n ≡ 1). rw o) (bit-cases m n)) (ones-low m n)
     ∙ add-comm (bit m n) (rank m n)
-  where
-    one-digit : (d : ℕ) → d < 2 → ones d ≡ d
-    one-digit zero h = refl
-    one-digit (suc zero) h = refl
-    one-digit (suc (suc d)) h = absurd (not-suc-le-zero (le-of-suc-le-suc (le-of-suc-le-suc h)))
 
 -- `count_ones(m)` is the size
 pub ones-size : (w m : ℕ) → m < 2 ^ w → ones m ≡ rank m w
@@ -139,40 +147,18 @@ rank-le m (suc n) = omega (arith, rank-le m n, bit-lt m n)
 
 -- ---- the node of a rank
 
-and-false : (a : Bool) → (a && false) ≡ false
-and-false true = refl
-and-false false = refl
-
 -- the node of rank r is the member with r members below it
 pub select-at : (w m n r : ℕ) → n < w → bit m n ≡ 1 → rank m n ≡ r → select w m r ≡ n
 unfolding select
 select-at zero m n r h e q = absurd (not-suc-le-zero h)
-select-at (suc w) m n r h e q = go (λ l. select-at w m n r l e q) (eq-or-lt-of-le (le-of-suc-le-suc h))
+select-at (suc w) m n r h e q =
+    ⊎-elim same (λ l. rw (other l) (select-at w m n r l e q)) (eq-or-lt-of-le (le-of-suc-le-suc h))
   where
-    other : n < w → has m w && eqb (rank m w) r ≡ false
-    other l = ap (λ (b : Bool). has m w && b) (ne-eqb (rank m w) r (λ x. lt-irrefl r (omega (arith, rank-lt m l e)))) ∙ and-false (has m w)
+    same : n ≡ w → cond (has m w && eqb (rank m w) r) w (select w m r) ≡ n
+    same x = rw (← x, eq-eqb (bit m n) 1 e, eq-eqb (rank m n) r q)
 
-    go : (n < w → select w m r ≡ n) → (n ≡ w) ⊎ (n < w) → cond (has m w && eqb (rank m w) r) w (select w m r) ≡ n
-    go ih (inl x) =
-        ap (λ (b : Bool). cond (b && eqb (rank m w) r) w (select w m r)) (eq-eqb (bit m w) 1 (ap (bit m) (sym x) ∙ e))
-        ∙ ap (λ (b : Bool). cond b w (select w m r)) (eq-eqb (rank m w) r (ap (rank m) (sym x) ∙ q))
-        ∙ sym x
-    go ih (inr l) = ap (λ (b : Bool). cond b w (select w m r)) (other l) ∙ ih l
-
--- each rank below the size is some member's
-pub member-of-rank : (w m r : ℕ) → r < rank m w → (n : ℕ) × (n < w) × (bit m n ≡ 1) × (rank m n ≡ r)
-unfolding rank
-member-of-rank zero m r h = absurd (not-suc-le-zero h)
-member-of-rank (suc w) m r h = go (λ l. member-of-rank w m r l) (bit-cases m w) (eq-or-lt-of-le (le-of-suc-le-suc (le-trans h (omega (arith, bit-lt m w)))))
-  where
-    up : (n : ℕ) × (n < w) × (bit m n ≡ 1) × (rank m n ≡ r) → (n : ℕ) × (n < suc w) × (bit m n ≡ 1) × (rank m n ≡ r)
-    up x = (x .0, omega arith, x .2, x .3)
-
-    go : (r < rank m w → (n : ℕ) × (n < w) × (bit m n ≡ 1) × (rank m n ≡ r))
-        → (bit m w ≡ 0) ⊎ (bit m w ≡ 1) → (r ≡ rank m w) ⊎ (r < rank m w) → (n : ℕ) × (n < suc w) × (bit m n ≡ 1) × (rank m n ≡ r)
-    go ih b (inr l) = up (ih l)
-    go ih (inl b) (inl x) = absurd (omega arith)
-    go ih (inr b) (inl x) = (w, le-refl (suc w), b, sym x)
+    other : n < w → (has m w && eqb (rank m w) r) ≡ false
+    other l = rw (ne-eqb (rank m w) r (λ x. lt-irrefl r (omega (arith, rank-lt m l e)))) (and-false (has m w))
 
 -- n is the node of rank r in a mask of w bits
 pub record IsNode (m w r n : ℕ) : Type 0 where
@@ -182,9 +168,19 @@ pub record IsNode (m w r n : ℕ) : Type 0 where
 
 -- each rank below the size has its node
 pub select-is : (w m r : ℕ) → r < rank m w → IsNode m w r (select w m r)
-select-is w m r h =
-    let x = member-of-rank w m r h in
-    subst (IsNode m w r) (sym (select-at w m (x .0) r (x .1) (x .2) (x .3))) (record { small = x .1; member = x .2; ranked = x .3 })
+unfolding rank select
+select-is zero m r h = absurd (not-suc-le-zero h)
+select-is (suc w) m r h = go (λ l. select-is w m r l) (eq-or-lt-of-le (le-of-suc-le-suc (le-trans h (omega (arith, bit-lt m w)))))
+  where
+    go : (r < rank m w → IsNode m w r (select w m r)) → (r ≡ rank m w) ⊎ (r < rank m w)
+        → IsNode m (suc w) r (cond (has m w && eqb (rank m w) r) w (select w m r))
+    go ih (inl x) =
+        let o : bit m w ≡ 1 = omega arith in
+        rw (eq-eqb (bit m w) 1 o, eq-eqb (rank m w) r (sym x)) (record { small = le-refl (suc w); member = o; ranked = sym x })
+    go ih (inr l) =
+        let i = ih l in
+        rw (ne-eqb (rank m w) r (λ x. lt-irrefl r (omega arith)), and-false (has m w))
+        (record { small = omega (arith, i .small); member = i .member; ranked = i .ranked })
 
 -- ---- the lowest member: `trailing_zeros`
 
@@ -202,7 +198,7 @@ rank-suc m (suc n) = omega (arith, rank-suc m n, bit-suc m n)
 pub trailing-is : (w m : ℕ) → 0 < m → m < 2 ^ w → IsNode m w 0 (trailingZeros w m)
 unfolding trailingZeros rank
 trailing-is zero m p h = absurd (omega arith)
-trailing-is (suc w) m p h = go (m % 2) refl (mod-lt m (zero-lt-suc 1)) (λ q. trailing-is w (m / 2) q (omega (arith, pow-suc 2 w)))
+trailing-is (suc w) m p h = go (m % 2) refl (mod-lt m (zero-lt-suc 1)) (λ q. trailing-is w (m / 2) q (omega arith))
   where
     go : (d : ℕ) → m % 2 ≡ d → d < 2 → (0 < m / 2 → IsNode (m / 2) w 0 (trailingZeros w (m / 2))) → IsNode m (suc w) 0 (under d (trailingZeros w (m / 2)))
     go zero e l ih =
@@ -220,49 +216,34 @@ trailing-select w m p h = let i = trailing-is w m p h in sym (select-at w m _ 0 
 pub size-pos : (w m : ℕ) → 0 < m → m < 2 ^ w → 0 < rank m w
 size-pos w m p h = let i = trailing-is w m p h in omega (arith, rank-lt m (i .small) (i .member))
 
--- an empty mask has no ones
-pub rank-zero : (n : ℕ) → rank 0 n ≡ 0
-unfolding rank
-rank-zero zero = refl
-rank-zero (suc n) = omega (arith, rank-zero n, bit-above 0 0 n (zero-lt-suc 0) zero-le)
-
 -- ---- one node, all nodes below k
 
 -- the mask of one node has that node
 pub bit-one : (n : ℕ) → bit (2 ^ n) n ≡ 1
 bit-one n = ap (λ (x : ℕ). x % 2) (div-self (pow-pos n))
 
-zero-digit : (d p : ℕ) → d < 2 → 0 < p → d * p ≡ 0 → d ≡ 0
-zero-digit zero p l h e = refl
-zero-digit (suc zero) p l h e = absurd (omega arith)
-zero-digit (suc (suc d)) p l h e = absurd (not-suc-le-zero (le-of-suc-le-suc (le-of-suc-le-suc l)))
-
-one-digit : (d p : ℕ) → d < 2 → 0 < p → d * p ≡ p → d ≡ 1
-one-digit zero p l h e = absurd (omega arith)
-one-digit (suc zero) p l h e = refl
-one-digit (suc (suc d)) p l h e = absurd (not-suc-le-zero (le-of-suc-le-suc (le-of-suc-le-suc l)))
-
 -- and no other
 pub bit-other : (n k : ℕ) → (n ≡ k → ⊥) → bit (2 ^ n) k ≡ 0
-bit-other n k h = go (lt-cases n k)
-  where
-    lt-cases : (a b : ℕ) → (a < b) ⊎ (b ≤ a)
-    lt-cases a zero = inr zero-le
-    lt-cases zero (suc b) = inl (zero-lt-suc b)
-    lt-cases (suc a) (suc b) = ⊎-elim (λ l. inl (suc-le-suc l)) (λ l. inr (suc-le-suc l)) (lt-cases a b)
+bit-other zero zero h = absurd (h refl)
+bit-other zero (suc k) h = bit-suc 1 k ∙ bit-none k
+bit-other (suc n) zero h = omega arith
+bit-other (suc n) (suc k) h =
+    let half : 2 ^ suc n / 2 ≡ 2 ^ n = omega arith in
+    bit-suc (2 ^ suc n) k ∙ ap (λ (x : ℕ). bit x k) half ∙ bit-other n k (λ e. h (ap suc e))
 
-    go : (n < k) ⊎ (k ≤ n) → bit (2 ^ n) k ≡ 0
-    go (inl l) = bit-above k (2 ^ n) k (pow-lt l) (le-refl k)
-    go (inr l) =
-        let z : bit (2 ^ k) n ≡ 0 = bit-above n (2 ^ k) n (pow-lt (omega arith)) (le-refl n) in
-        zero-digit (bit (2 ^ n) k) (2 ^ k) (bit-lt (2 ^ n) k) (pow-pos k)
-        (sym (and-one (2 ^ n) k) ∙ and-comm (2 ^ n) (2 ^ k) ∙ and-one (2 ^ k) n ∙ ap (λ (x : ℕ). x * 2 ^ n) z ∙ zero-mul (2 ^ n))
+-- the nodes below k that are not in m
+pub bit-others : (k m n : ℕ) → m < 2 ^ k → n < k → bit (allNodes k - m) n ≡ 1 - bit m n
+bit-others zero m n h l = absurd (not-suc-le-zero l)
+bit-others (suc k) m zero h l = omega arith
+bit-others (suc k) m (suc n) h l =
+    let half : (allNodes (suc k) - m) / 2 ≡ allNodes k - m / 2 = omega arith in
+    omega (arith, bit-suc (allNodes (suc k) - m) n, ap (λ (x : ℕ). bit x n) half, bit-others k (m / 2) n (omega arith) (omega arith), bit-suc m n)
 
 -- all nodes below k has each node below k
 pub bit-below : (k n : ℕ) → n < k → bit (allNodes k) n ≡ 1
 bit-below k n h =
-    one-digit (bit (allNodes k) n) (2 ^ n) (bit-lt (allNodes k) n) (pow-pos n)
-    (sym (and-one (allNodes k) n) ∙ and-comm (allNodes k) (2 ^ n) ∙ and-mask (2 ^ n) k ∙ mod-eq-of-lt (pow-lt h))
+    let all : allNodes k - 0 ≡ allNodes k = omega arith in
+    omega (arith, ap (λ (x : ℕ). bit x n) all, bit-others k 0 n (pow-pos k) h, bit-none n)
 
 -- and none from k on
 pub bit-below-out : (k n : ℕ) → k ≤ n → bit (allNodes k) n ≡ 0
@@ -319,7 +300,7 @@ image-has u f (suc w) b l e = go (λ q. image-has u f w b q e) (eq-or-lt-of-le (
 -- and nothing else is
 pub image-only : (u : ℕ) (f : ℕ → ℕ) (w n : ℕ) → bit (image u f w) n ≡ 1 → (b : ℕ) × (b < w) × (bit u b ≡ 1) × (f b ≡ n)
 unfolding image
-image-only u f zero n h = absurd (omega (arith, bit-above 0 0 n (zero-lt-suc 0) zero-le))
+image-only u f zero n h = absurd (omega (arith, bit-none n))
 image-only u f (suc w) n h = go (λ x. image-only u f w n x) (bit-cases u w) (bit-cases (image u f w) n) (ℕ-discrete (f w) n)
   where
     up : (b : ℕ) × (b < w) × (bit u b ≡ 1) × (f b ≡ n) → (b : ℕ) × (b < suc w) × (bit u b ≡ 1) × (f b ≡ n)
@@ -333,61 +314,11 @@ image-only u f (suc w) n h = go (λ x. image-only u f w n x) (bit-cases u w) (bi
     go ih (inr z) (inl i) (no ne) =
         absurd (omega (arith, ap (λ (x : ℕ). bit x n) (image-in u f w z), bit-insert (image u f w) (f w) n, bit-other (f w) n ne))
 
--- ---- as the code counts and tests: `n + 1`, and the answer of a test
-
--- the rank of node n + 1
-pub rank-next : (m n : ℕ) → rank m (n + 1) ≡ rank m n + bit m n
-rank-next m n = ap (rank m) (add-one n) ∙ rank-step m n
-
--- a test that held: the bit is 1
-pub in-true : (m n : ℕ) {r : Bool} → r ≡ has m n → r ≡ true → bit m n ≡ 1
-in-true m n e t = eqb-true (bit m n) 1 (sym e ∙ t)
+-- ---- what the code tests
 
 -- a test that failed: the bit is 0
 pub in-false : (m n : ℕ) {r : Bool} → r ≡ has m n → r ≡ false → bit m n ≡ 0
-in-false m n e t = ⊎-elim (λ z. z) (λ o. absurd (eqb-false (bit m n) 1 (sym e ∙ t) o)) (bit-cases m n)
-
--- one turn of a loop that gathers the nodes f b: b is in u and its node is put in, or b is not
-pub image-take : (u : ℕ) (f : ℕ → ℕ) (b : ℕ) {out next n : ℕ} → bit u b ≡ 1 → out ≡ image u f b → n ≡ f b → next ≡ insert out n → next ≡ image u f (b + 1)
-image-take u f b e o q x = x ∙ ap₂ insert o q ∙ sym (ap (image u f) (add-one b) ∙ image-in u f b e)
-
--- or b is not in u and nothing is put in
-pub image-skip : (u : ℕ) (f : ℕ → ℕ) (b : ℕ) {out next : ℕ} → bit u b ≡ 0 → out ≡ image u f b → next ≡ out → next ≡ image u f (b + 1)
-image-skip u f b e o x = x ∙ o ∙ sym (ap (image u f) (add-one b) ∙ image-out u f b (λ y. omega arith))
-
--- the rank that is asked for lies below the size
-pub mod-size : (w m r : ℕ) → 0 < m → m < 2 ^ w → r % rank m w < rank m w
-mod-size w m r p h = mod-lt r (size-pos w m p h)
-
--- the node of a rank mod the size is a node of the mask
-pub select-mod : (w m r : ℕ) → 0 < m → m < 2 ^ w → IsNode m w (r % rank m w) (select w m (r % rank m w))
-select-mod w m r p h = select-is w m (r % rank m w) (mod-size w m r p h)
-
--- ---- what the folded and the remapped mask hold
-
-module _ (w u : ℕ) (f : ℕ → ℕ) (r : ℕ → ℕ) (m : ℕ) (p : 0 < m) (h : m < 2 ^ w) (g : (b : ℕ) → f b ≡ select w m (r b % rank m w)) where
-  -- each f b is a node of m
-  to-member : (b : ℕ) → IsNode m w (r b % rank m w) (f b)
-  to-member b = subst (IsNode m w (r b % rank m w)) (sym (g b)) (select-mod w m (r b) p h)
-
-  -- what is carried into m is a mask of w bits
-  pub onto-lt : image u f w < 2 ^ w
-  onto-lt = image-lt w u f w (λ b l e. to-member b .small)
-
-  -- it lies within m
-  pub onto-within : (n : ℕ) → bit (image u f w) n ≡ 1 → bit m n ≡ 1
-  onto-within n e = let x = image-only u f w n e in ap (bit m) (sym (x .3)) ∙ to-member (x .0) .member
-
-  -- it is not empty where the source is not
-  pub onto-pos : 0 < u → u < 2 ^ w → 0 < image u f w
-  onto-pos q l =
-      let t = trailing-is w u q l in
-      let o = image-has u f w (trailingZeros w u) (t .small) (t .member) in
-      pos (image u f w) (f (trailingZeros w u)) o
-    where
-      pos : (x n : ℕ) → bit x n ≡ 1 → 0 < x
-      pos zero n e = absurd (omega (arith, bit-above 0 0 n (zero-lt-suc 0) zero-le))
-      pos (suc x) n e = zero-lt-suc x
+in-false m n e t = omega (arith, eqb-false (bit m n) 1 (sym e ∙ t))
 
 -- ---- a mask within another
 
@@ -398,8 +329,34 @@ within-bits a b e n o = omega (arith, bit-and a b n, ap (λ (x : ℕ). bit x n) 
 -- a mask whose nodes are all in another is within it
 pub bits-within : (w a b : ℕ) → a < 2 ^ w → ((n : ℕ) → bit a n ≡ 1 → bit b n ≡ 1) → bitAnd a b ≡ a
 bits-within w a b h q =
-    ext w (bitAnd a b) a (lt-of-le-of-lt (and-le-l a b) h) h
-    (λ n l. bit-and a b n ∙ ⊎-elim (λ (z : bit a n ≡ 0). omega arith) (λ (o : bit a n ≡ 1). omega (arith, q n o)) (bit-cases a n))
+    same-nodes w (bitAnd a b) a (lt-of-le-of-lt (and-le-l a b) h) h
+    (λ n l o. omega (arith, bit-and a b n, bit-lt b n))
+    (λ n l o. bit-and a b n ∙ omega (arith, q n o))
+
+-- ---- what the folded and the remapped mask hold
+
+module _ (w u : ℕ) (f : ℕ → ℕ) (r : ℕ → ℕ) (m : ℕ) (p : 0 < m) (h : m < 2 ^ w) (g : (b : ℕ) → f b ≡ select w m (r b % rank m w)) where
+  -- each f b is a node of m
+  pub onto-member : (b : ℕ) → IsNode m w (r b % rank m w) (f b)
+  onto-member b = rw (g b) (select-is w m (r b % rank m w) (mod-lt (r b) (size-pos w m p h)))
+
+  -- what is carried into m is a mask of w bits
+  pub onto-lt : image u f w < 2 ^ w
+  onto-lt = image-lt w u f w (λ b l e. onto-member b .small)
+
+  -- it lies within m
+  pub onto-within : bitAnd (image u f w) m ≡ image u f w
+  onto-within =
+      bits-within w (image u f w) m onto-lt
+      (λ n e. let x = image-only u f w n e in ap (bit m) (sym (x .3)) ∙ onto-member (x .0) .member)
+
+  -- it is not empty where the source is not
+  pub onto-pos : 0 < u → u < 2 ^ w → 0 < image u f w
+  onto-pos q l =
+      let t = trailing-is w u q l in
+      let n = f (trailingZeros w u) in
+      pos-of-ne-zero
+      (λ z. absurd (omega (arith, image-has u f w (trailingZeros w u) (t .small) (t .member), ap (λ (x : ℕ). bit x n) z, bit-none n)))
 
 -- ---- from bit k on: `m >> k`
 
@@ -417,6 +374,14 @@ rank-shift m k (suc n) = ap (rank m) (add-suc k n) ∙ omega (arith, rank-step m
 pub below-width : (w m n : ℕ) → m < 2 ^ w → bit m n ≡ 1 → n < w
 below-width w m n h e = lt-of-not-le (λ l. absurd (omega (arith, bit-above w m n h l)))
 
+-- a mask with no node from k on has k bits
+pub none-from : (m k : ℕ) → m / 2 ^ k ≡ 0 → m < 2 ^ k
+none-from m k z = omega (arith, div-lt-iff-lt-mul {x = m} {y = 1} (pow-pos k) .0 (omega arith))
+
+-- a node of rank 0 has no node of the mask below it
+pub none-under : (m d i : ℕ) → rank m d ≡ 0 → i < d → bit m i ≡ 0
+none-under m d i r l = ⊎-elim (λ z. z) (λ o. absurd (omega (arith, rank-lt m l o))) (bit-cases m i)
+
 -- the lowest node at k or above
 pub trailing-from : (w m k : ℕ) → m < 2 ^ w → 0 < m / 2 ^ k → IsNode m w (rank m k) (k + trailingZeros w (m / 2 ^ k))
 trailing-from w m k h p =
@@ -428,39 +393,7 @@ trailing-from w m k h p =
       ranked = rank-shift m k (trailingZeros w (m / 2 ^ k)) ∙ omega (arith, t .ranked);
     }
 
--- no node at k or above
-pub rank-all : (w m k : ℕ) → m < 2 ^ w → k ≤ w → m / 2 ^ k ≡ 0 → rank m w ≡ rank m k
-rank-all w m k h l e =
-    ap (rank m) (sym (add-sub-of-le l)) ∙ rank-shift m k (w - k) ∙ ap (λ (x : ℕ). rank m k + rank x (w - k)) e
-    ∙ ap (λ (x : ℕ). rank m k + x) (rank-zero (w - k)) ∙ add-zero (rank m k)
-
--- ---- the nodes below k that are not in m
-
--- a bit of `a ^ b` is in exactly one of them
-pub bit-xor : (a b n : ℕ) → bit (bitXor a b) n ≡ differ (bit a n) (bit b n)
-bit-xor a b n =
-    ap (λ (x : ℕ). x % 2) (xor-shr a b n ∙ xor-step (a / 2 ^ n) (b / 2 ^ n))
-    ∙ digits-mod (bitXor (a / 2 ^ n / 2) (b / 2 ^ n / 2)) (small (bit a n) (bit b n) (bit-lt a n) (bit-lt b n))
-  where
-    small : (x y : ℕ) → x < 2 → y < 2 → differ x y < 2
-    small zero y h l = l
-    small (suc zero) zero h l = h
-    small (suc zero) (suc y) h l = omega arith
-    small (suc (suc x)) y h l = absurd (not-suc-le-zero (le-of-suc-le-suc (le-of-suc-le-suc h)))
-
--- `m ^ all` is what m lacks of all nodes below k
-pub xor-below : (k m : ℕ) → m < 2 ^ k → bitXor m (allNodes k) ≡ allNodes k - m
-xor-below k m h = omega (arith, xor-add-and m (allNodes k), and-mask m k, mod-eq-of-lt h)
-
--- the nodes below k that are not in m
-pub bit-others : (k m n : ℕ) → m < 2 ^ k → n < k → bit (allNodes k - m) n ≡ 1 - bit m n
-bit-others k m n h l =
-    ap (λ (x : ℕ). bit x n) (sym (xor-below k m h)) ∙ bit-xor m (allNodes k) n ∙ ap (differ (bit m n)) (bit-below k n l) ∙ flip (bit m n) (bit-lt m n)
-  where
-    flip : (d : ℕ) → d < 2 → differ d 1 ≡ 1 - d
-    flip zero h = refl
-    flip (suc zero) h = refl
-    flip (suc (suc d)) h = absurd (not-suc-le-zero (le-of-suc-le-suc (le-of-suc-le-suc h)))
+-- ---- what the code computes
 
 -- `below(k) & !m`, in words of j + k bits
 pub and-not : (j k m : ℕ) → m < 2 ^ k → bitAnd (allNodes k) ((2 ^ (j + k) - 1) - m) ≡ allNodes k - m
@@ -468,39 +401,28 @@ and-not j k m h = and-comm (allNodes k) ((2 ^ (j + k) - 1) - m) ∙ and-mask ((2
 
 -- the test `m & (1 << n) != 0`
 pub and-one-test : (m n : ℕ) → not (eqb (bitAnd m (2 ^ n)) 0) ≡ has m n
-and-one-test m n = ap (λ (x : ℕ). not (eqb x 0)) (and-one m n) ∙ go (bit m n) (bit-lt m n)
-  where
-    go : (d : ℕ) → d < 2 → not (eqb (d * 2 ^ n) 0) ≡ eqb d 1
-    go zero h = ap (λ (x : ℕ). not (eqb x 0)) (zero-mul (2 ^ n))
-    go (suc zero) h = ap (λ (x : ℕ). not (eqb x 0)) (one-mul (2 ^ n)) ∙ ap not (ne-eqb (2 ^ n) 0 (λ e. omega (arith, pow-pos n)))
-    go (suc (suc d)) h = absurd (not-suc-le-zero (le-of-suc-le-suc (le-of-suc-le-suc h)))
+and-one-test m n =
+    ⊎-elim
+    (λ (z : bit m n ≡ 0). rw (and-one m n, z, zero-mul (2 ^ n)))
+    (λ (o : bit m n ≡ 1). rw (and-one m n, o, one-mul (2 ^ n), ne-eqb (2 ^ n) 0 (λ e. omega (arith, pow-pos n))))
+    (bit-cases m n)
 
--- what is folded or remapped is a mask of w bits, lies within the target and is not empty where the source is not
+-- what is folded or remapped lies within the target and is not empty where the source is not
 module _ (w u m : ℕ) (p : 0 < m) (h : m < 2 ^ w) where
-  -- a folded mask has w bits
-  pub folded-lt : folded w u m < 2 ^ w
-  unfolding folded
-  folded-lt = onto-lt w u (foldedTo w m) (λ b. b) m p h (λ b. refl)
-
-  -- it lies within the allowed set
+  -- a folded mask lies within the allowed set
   pub folded-within : bitAnd (folded w u m) m ≡ folded w u m
   unfolding folded
-  folded-within = bits-within w (folded w u m) m (onto-lt w u (foldedTo w m) (λ b. b) m p h (λ b. refl)) (onto-within w u (foldedTo w m) (λ b. b) m p h (λ b. refl))
+  folded-within = onto-within w u (foldedTo w m) (λ b. b) m p h (λ b. refl)
 
   -- it is not empty where the user mask is not
   pub folded-pos : 0 < u → u < 2 ^ w → 0 < folded w u m
   unfolding folded
   folded-pos = onto-pos w u (foldedTo w m) (λ b. b) m p h (λ b. refl)
 
-  -- a remapped mask has w bits
-  pub remapped-lt : (old : ℕ) → remapped w u old m < 2 ^ w
-  unfolding remapped
-  remapped-lt old = onto-lt w u (remappedTo w old m) (rank old) m p h (λ b. refl)
-
-  -- it lies within the new allowed set
+  -- a remapped mask lies within the new allowed set
   pub remapped-within : (old : ℕ) → bitAnd (remapped w u old m) m ≡ remapped w u old m
   unfolding remapped
-  remapped-within old = bits-within w (remapped w u old m) m (onto-lt w u (remappedTo w old m) (rank old) m p h (λ b. refl)) (onto-within w u (remappedTo w old m) (rank old) m p h (λ b. refl))
+  remapped-within old = onto-within w u (remappedTo w old m) (rank old) m p h (λ b. refl)
 
   -- it is not empty where the effective mask is not
   pub remapped-pos : (old : ℕ) → 0 < u → u < 2 ^ w → 0 < remapped w u old m
@@ -515,9 +437,7 @@ shifted-out m n = go (decLt m (2 ^ n))
   where
     go : Dec (m < 2 ^ n) → eqb (m / 2 ^ n) 0 ≡ ltb m (2 ^ n)
     go (yes l) = eq-eqb (m / 2 ^ n) 0 (div-eq-of-lt l) ∙ sym (lt-ltb m (2 ^ n) l)
-    go (no q) =
-        ne-eqb (m / 2 ^ n) 0 (λ e. q (omega (arith, div-lt-iff-lt-mul {x = m} {y = 1} (pow-pos n) .0 (omega arith))))
-        ∙ sym (le-ltb m (2 ^ n) (le-of-suc-le-suc (lt-of-not-le q)))
+    go (no q) = ne-eqb (m / 2 ^ n) 0 (λ e. q (none-from m n e)) ∙ sym (le-ltb m (2 ^ n) (omega arith))
 
 -- a mask of w bits has none at n or above, for each n from w on
 pub below-wide : (w m n : ℕ) → m < 2 ^ w → w ≤ n → below n m ≡ true
@@ -527,8 +447,8 @@ below-wide w m n h l = lt-ltb m (2 ^ n) (lt-of-lt-of-le h (pow-mono l))
 
 -- one bit more, put on top
 top-lt : (w r : ℕ) (b : Bool) → r < 2 ^ w → r + cond b (2 ^ w) 0 < 2 ^ suc w
-top-lt w r true h = omega (arith, pow-suc 2 w)
-top-lt w r false h = omega (arith, pow-suc 2 w)
+top-lt w r true h = omega arith
+top-lt w r false h = omega arith
 
 -- the mask of a test on the nodes below w has no bit at w or above
 pub maskOf-lt : (w : ℕ) (p : ℕ → Bool) → maskOf w p < 2 ^ w
@@ -563,19 +483,12 @@ has-maskOf (suc w) p n h =
     (λ l. has-under w n (maskOf w p) (p w) (maskOf-lt w p) l ∙ has-maskOf w p n l)
     (eq-or-lt-of-le (le-of-suc-le-suc h))
 
--- masks that agree on node n have the same bit there
-pub same-bit : (a b n : ℕ) → has a n ≡ has b n → bit a n ≡ bit b n
-same-bit a b n e = go (bit-cases a n) (bit-cases b n)
-  where
-    go : (bit a n ≡ 0) ⊎ (bit a n ≡ 1) → (bit b n ≡ 0) ⊎ (bit b n ≡ 1) → bit a n ≡ bit b n
-    go (inl x) (inl y) = omega arith
-    go (inr x) (inr y) = omega arith
-    go (inl x) (inr y) = absurd (omega (arith, eqb-true (bit a n) 1 (e ∙ eq-eqb (bit b n) 1 y)))
-    go (inr x) (inl y) = absurd (omega (arith, eqb-true (bit b n) 1 (sym e ∙ eq-eqb (bit a n) 1 x)))
-
 -- a mask of w bits whose nodes are those that pass a test is the mask of the test
 pub maskOf-is : (w m : ℕ) (p : ℕ → Bool) → m < 2 ^ w → ((n : ℕ) → n < w → has m n ≡ p n) → m ≡ maskOf w p
-maskOf-is w m p h q = ext w m (maskOf w p) h (maskOf-lt w p) (λ n l. same-bit m (maskOf w p) n (q n l ∙ sym (has-maskOf w p n l)))
+maskOf-is w m p h q =
+    same-nodes w m (maskOf w p) h (maskOf-lt w p)
+    (λ n l o. eqb-true (bit (maskOf w p) n) 1 (has-maskOf w p n l ∙ sym (q n l) ∙ eq-eqb (bit m n) 1 o))
+    (λ n l o. eqb-true (bit m n) 1 (q n l ∙ sym (has-maskOf w p n l) ∙ eq-eqb (bit (maskOf w p) n) 1 o))
 
 -- tests that agree on the nodes below w have the same mask
 pub maskOf-same : (w : ℕ) (p q : ℕ → Bool) → ((n : ℕ) → n < w → p n ≡ q n) → maskOf w p ≡ maskOf w q
@@ -587,29 +500,15 @@ unfolding maskOf
 maskOf-narrow {n} {w} p l h =
     le-ind (λ (k : ℕ). maskOf k p ≡ maskOf n p) refl (λ k q e. rw (h k q) (add-zero (maskOf k p) ∙ e)) w l
 
--- one turn of a loop that gathers the nodes that pass: node k passes and is put in, or it does not
-pub maskOf-take : (p : ℕ → Bool) (k : ℕ) {out next : ℕ} → p k ≡ true → out ≡ maskOf k p → next ≡ insert out k → next ≡ maskOf (k + 1) p
-unfolding maskOf
-maskOf-take p k t o x =
-    x ∙ ap (λ (m : ℕ). insert m k) o ∙ sym (top-insert k (maskOf k p) (maskOf-lt k p))
-    ∙ ap (λ (b : Bool). maskOf k p + cond b (2 ^ k) 0) (sym t) ∙ sym (ap (λ (n : ℕ). maskOf n p) (add-one k))
-
--- or node k does not pass and nothing is put in
-pub maskOf-skip : (p : ℕ → Bool) (k : ℕ) {out next : ℕ} → p k ≡ false → out ≡ maskOf k p → next ≡ out → next ≡ maskOf (k + 1) p
-unfolding maskOf
-maskOf-skip p k t o x =
-    x ∙ o ∙ sym (add-zero (maskOf k p)) ∙ ap (λ (b : Bool). maskOf k p + cond b (2 ^ k) 0) (sym t) ∙ sym (ap (λ (n : ℕ). maskOf n p) (add-one k))
-
 -- the nodes below n that are not in the mask of a test are those that do not pass it
 pub maskOf-not : (n : ℕ) (p : ℕ → Bool) → allNodes n - maskOf n p ≡ maskOf n (λ k. not (p k))
 maskOf-not n p =
     maskOf-is n (allNodes n - maskOf n p) (λ k. not (p k)) (lt-of-le-of-lt (sub-le (allNodes n) (maskOf n p)) (ones-lt n))
-    (λ k l. ap (λ (x : ℕ). eqb x 1) (bit-others n (maskOf n p) k (maskOf-lt n p) l) ∙ flip (bit (maskOf n p) k) (bit-lt (maskOf n p) k) ∙ ap not (has-maskOf n p k l))
+    (λ k l. rw (bit-others n (maskOf n p) k (maskOf-lt n p) l) (flip k (bit-cases (maskOf n p) k) ∙ ap not (has-maskOf n p k l)))
   where
-    flip : (d : ℕ) → d < 2 → eqb (1 - d) 1 ≡ not (eqb d 1)
-    flip zero h = refl
-    flip (suc zero) h = refl
-    flip (suc (suc d)) h = absurd (not-suc-le-zero (le-of-suc-le-suc (le-of-suc-le-suc h)))
+    flip : (k : ℕ) → (bit (maskOf n p) k ≡ 0) ⊎ (bit (maskOf n p) k ≡ 1) → eqb (1 - bit (maskOf n p) k) 1 ≡ not (has (maskOf n p) k)
+    flip k (inl z) = rw z
+    flip k (inr o) = rw o
 
 -- ---- both masks together
 
@@ -622,30 +521,3 @@ has-or a b n = ap (λ (x : ℕ). eqb x 1) (bit-or a b n) ∙ go (bit-cases a n) 
     go (inl x) (inr y) = rw (x, y)
     go (inr x) (inl y) = rw (x, y)
     go (inr x) (inr y) = rw (x, y)
-
--- ---- the node of the next rank, once round
-
-module _ (w m r : ℕ) (p : 0 < m) (h : m < 2 ^ w) where
-  -- the rank after r mod the size
-  rank-after : (r + 1) % rank m w ≡ (r % rank m w + 1) % rank m w
-  rank-after = sym (mod-add-mod r (rank m w) 1)
-
-  -- the ones up to and with the node of rank r mod the size
-  rank-up-to : rank m (select w m (r % rank m w) + 1) ≡ r % rank m w + 1
-  rank-up-to = let i = select-mod w m r p h in rank-next m (select w m (r % rank m w)) ∙ omega (arith, i .member, i .ranked)
-
-  -- it lies above, if a node does
-  pub next-rank-above : 0 < m / 2 ^ (select w m (r % rank m w) + 1)
-      → select w m (r % rank m w) + 1 + trailingZeros w (m / 2 ^ (select w m (r % rank m w) + 1)) ≡ select w m ((r + 1) % rank m w)
-  next-rank-above q =
-      let n : ℕ = select w m (r % rank m w) in
-      let t = trailing-from w m (n + 1) h q in
-      let more : r % rank m w + 1 < rank m w = omega (arith, rank-lt m (t .small) (t .member), t .ranked, rank-up-to) in
-      sym (ap (select w m) (rank-after ∙ mod-eq-of-lt more) ∙ select-at w m _ (r % rank m w + 1) (t .small) (t .member) (t .ranked ∙ rank-up-to))
-
-  -- else it is the lowest
-  pub next-rank-round : m / 2 ^ (select w m (r % rank m w) + 1) ≡ 0 → select w m 0 ≡ select w m ((r + 1) % rank m w)
-  next-rank-round e =
-      let n : ℕ = select w m (r % rank m w) in
-      let all : rank m w ≡ r % rank m w + 1 = rank-all w m (n + 1) h (omega (arith, select-mod w m r p h .small)) e ∙ rank-up-to in
-      ap (select w m) (sym (rank-after ∙ ap (λ (x : ℕ). x % rank m w) (sym all) ∙ mod-self (rank m w)))

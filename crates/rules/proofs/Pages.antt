@@ -2,7 +2,7 @@
 -- Assumes nothing.
 use Prim.Native.Nat.{ℕ, zero, suc, _+_, _-_, _≤_, _<_}
 use mathlib.Core.Path.{_≡_, refl, ap}
-use mathlib.Core.Bool.{Bool, true, false}
+use mathlib.Core.Bool.{Bool, true, false, cond}
 use mathlib.Core.List.{List, [], _∷_}
 use native.Mathlib.Omega.{arith}
 use borrow.Author.Tests.{ltb-true, ltb-false, lt-ltb, le-ltb}
@@ -55,20 +55,16 @@ pub page-node : {counts : List ℕ} {n p : ℕ} → PageOf counts n p → nodeOf
 unfolding firstPage
 page-node {counts} {n} {p} o = node-found counts n p (o .start) (o .end)
 
-found-node : (counts : List ℕ) (p : ℕ) → p < sum counts → (n : ℕ) × PageOf counts n p
-unfolding sum firstPage
-found-node [] p h = absurd (omega arith)
-found-node (c ∷ cs) p h = go (ltb p c) refl (found-node cs (p - c))
+-- each page below the number of pages is of the node that nodeOfPage finds
+pub node-page : (counts : List ℕ) (p : ℕ) → p < sum counts → PageOf counts (nodeOfPage counts p) p
+unfolding sum firstPage nodeOfPage
+node-page [] p h = absurd (omega arith)
+node-page (c ∷ cs) p h = go (ltb p c) refl (node-page cs (p - c))
   where
-    go : (b : Bool) → ltb p c ≡ b → (p - c < sum cs → (n : ℕ) × PageOf cs n (p - c)) → (n : ℕ) × PageOf (c ∷ cs) n p
-    go true e ih = (0, record { start = omega arith; end = omega (arith, ltb-true p c e) })
+    go : (b : Bool) → ltb p c ≡ b → (p - c < sum cs → PageOf cs (nodeOfPage cs (p - c)) (p - c))
+        → PageOf (c ∷ cs) (cond b 0 (suc (nodeOfPage cs (p - c)))) p
+    go true e ih = record { start = omega arith; end = omega (arith, ltb-true p c e) }
     go false e ih =
         let l : c ≤ p = ltb-false p c e in
         let r = ih (omega arith) in
-        (suc (r .0), record { start = omega (arith, r .1 .start); end = omega (arith, r .1 .end) })
-
--- each page below the number of pages is of the node that nodeOfPage finds
-pub node-page : (counts : List ℕ) (p : ℕ) → p < sum counts → PageOf counts (nodeOfPage counts p) p
-node-page counts p h =
-    let r = found-node counts p h in
-    rw (page-node (r .1)) (r .1)
+        record { start = omega (arith, r .start); end = omega (arith, r .end) }

@@ -1,5 +1,5 @@
 -- Document 01, "Node-list text": the reader and the writer, on lists of bytes.
-use Prim.Native.Nat.{ℕ, zero, suc, _+_, _-_, _*_, _/_, _%_}
+use Prim.Native.Nat.{ℕ, suc, _+_, _-_, _*_, _/_, _%_}
 use mathlib.Core.Bool.{Bool, true, false, not, _&&_, _||_, cond}
 use mathlib.Core.List.{List, [], _∷_, _++_, map}
 use lib.ListN.{length, getD, drop}
@@ -168,5 +168,6 @@ writeText n m out = writing m out (writeDecision n m (length out))
 
 -- for a proof that computes: `unfolding openText` opens every definition of this file
 unfoldable pub openText : Unit {0}
-unfolding onto split valueFrom isNumber isItem itemHas itemsOf isItems names formBy formOf formOk formMask readText joined runs decimal runText commas textOf writeDecision writing writeText
+unfolding onto split valueFrom isNumber isItem itemHas itemsOf isItems names formBy formOf formOk formMask readText
+    joined runs decimal runText commas textOf writeDecision writing writeText
 openText = tt

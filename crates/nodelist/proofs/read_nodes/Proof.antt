@@ -9,7 +9,8 @@ use Rattle.rules.specs.Machine.{nodesOk}
 use Rattle.rules.specs.Masks.{below}
 use Rattle.rules.specs.Text.{formOf}
 use Rattle.nodelist.specs.Forms.{formRead, decided}
-use Rattle.nodelist.proofs.FormLaws.{refused-nodes, refused-allowed, refused-length, decided-form, nodes-small}
+use Rattle.rules.proofs.Kept.{nodes-few}
+use Rattle.nodelist.proofs.FormLaws.{refused-nodes, refused-allowed, refused-length, decided-form}
 use Rattle.nodelist.proofs.read_nodes.Statement.{statement}
 use Rattle.nodelist.proofs.read_nodes.Tie as tie
 
@@ -60,7 +61,7 @@ read-form-requires c κs =
     let d = c .before in
     let a = d .before .before .before .before .before .before .args in
     let o = d .before .before .before .before .of in
-    (nodes-small (a .nodes) (nodes-fine (d .before)), rw (o .ensures) (ltb-true (a .allowed) (2 ^ a .nodes) (allowed-fine d)))
+    (nodes-few (a .nodes) (nodes-fine (d .before)), rw (o .ensures) (ltb-true (a .allowed) (2 ^ a .nodes) (allowed-fine d)))
 
 returns-4 : tie.Need-returns-4
 returns-4 c =

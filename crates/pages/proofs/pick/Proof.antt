@@ -1,6 +1,6 @@
 -- `pick` meets its contract.
 -- Assumes nothing.
-use Prim.Native.Nat.{ℕ, _+_, _-_, _≤_, _<_}
+use Prim.Native.Nat.{ℕ, _-_, _≤_, _<_}
 use mathlib.Core.Path.{_≡_, refl, sym, ap, _∙_}
 use mathlib.Core.List.{List}
 use mathlib.Core.Option.{none}
@@ -49,7 +49,9 @@ lowest-zero-requires c κs =
 -- ---- after a block has been looked at: the part, where the block starts and ends, and the index of its lowest zero, or its length
 
 abbrev part-of : tie.After-lowest-zero Inv-loop μ-loop → List ℕ
-part-of c = c .before .before .before .before .before .before .before .before .before .before .before .args .part .now
+part-of c =
+    let at-loop = c .before .before .before .before .before in
+    at-loop .before .before .before .before .before .before .args .part .now
 
 abbrev start : tie.After-lowest-zero Inv-loop μ-loop → ℕ
 start c = c .before .before .before .before .before .loop .i

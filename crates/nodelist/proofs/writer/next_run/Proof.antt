@@ -6,9 +6,7 @@ use native.Mathlib.Omega.{arith}
 use lib.Count.{trailingZeros}
 use borrow.Author.Needs.{needs}
 use Rattle.rules.specs.Masks.{allNodes}
-use Rattle.rules.proofs.Masks.{trailing-from}
-use Rattle.rules.proofs.Runs.{FirstRun, first-run}
-use Rattle.nodelist.proofs.LineLaws.{no-run-from, run-from}
+use Rattle.nodelist.proofs.Runs.{FirstRun, no-run-from, first-run}
 use Rattle.nodelist.proofs.writer.next_run.Statement.{statement}
 use Rattle.nodelist.proofs.writer.next_run.Tie as tie
 
@@ -28,11 +26,11 @@ low-of c = let a = c .before .before .before .args in a .from .0 + trailingZeros
 abbrev ones-of : tie.Else1 → ℕ
 ones-of c = trailingZeros 64 (allNodes 64 - c .before .before .before .args .mask .0 / 2 ^ low-of c)
 
-low-small : (c : tie.Else1) → low-of c < 64
-low-small c = let a = c .before .before .before .args in trailing-from 64 (a .mask .0) (a .from .0) (omega arith) (pos-of-ne-zero (c .if1 .left)) .small
+found : (c : tie.Else1) → let a = c .before .before .before .args in FirstRun (a .mask .0) (a .from .0) (low-of c) (ones-of c)
+found c = let a = c .before .before .before .args in first-run (a .mask .0) (a .from .0) (omega arith) (pos-of-ne-zero (c .if1 .left))
 
-found : (c : tie.Else1) → let a = c .before .before .before .args in FirstRun 64 (a .mask .0) (a .from .0) (low-of c) (ones-of c)
-found c = let a = c .before .before .before .args in first-run 64 (a .mask .0) (a .from .0) (omega arith) (pos-of-ne-zero (c .if1 .left))
+low-small : (c : tie.Else1) → low-of c < 64
+low-small c = let f = found c in omega (arith, f .some, f .within)
 
 cast-low : tie.Need-cast-low
 cast-low c = omega (arith, low-small c)
@@ -57,8 +55,8 @@ sub-t13 c = omega (arith, found (c .before .before) .some)
 
 returns-2 : tie.Need-returns-2
 returns-2 c =
-    let a = c .before .before .before .before .before .args in
-    run-from (a .mask .0) (a .from .0) (low-of (c .before .before)) (ones-of (c .before .before)) (omega arith) (found (c .before .before))
+    let f = found (c .before .before) in
+    (omega arith, omega (arith, f .some), omega (arith, f .some, f .within), f .first)
 
 pub next-run-spec : {M : Type 1} → statement M
 next-run-spec =

@@ -2,12 +2,12 @@
 -- Assumes nothing.
 use native.Mathlib.Omega.{arith}
 use borrow.Author.Needs.{needs}
-use Rattle.nodelist.proofs.LineLaws.{run-room, double-room, put-single, put-double}
+use Rattle.nodelist.proofs.LineLaws.{run-length, double-room, put-single, put-double}
 use Rattle.nodelist.proofs.writer.put_run.Statement.{statement}
 use Rattle.nodelist.proofs.writer.put_run.Tie as tie
 
 element-write-line : tie.Need-element-write-line
-element-write-line c = omega (arith, run-room (c .args .low .0) (c .args .high .0))
+element-write-line c = omega (arith, run-length (c .args .low .0) (c .args .high .0))
 
 add-put-number : tie.Need-add-put-number
 add-put-number c = search needs
@@ -16,7 +16,7 @@ cast-put-number : tie.Need-cast-put-number
 cast-put-number c = search needs
 
 put-number-requires : tie.Need-put-number-requires
-put-number-requires c κs = let a = c .before .before .args in omega (arith, run-room (a .low .0) (a .high .0))
+put-number-requires c κs = let a = c .before .before .args in omega (arith, run-length (a .low .0) (a .high .0))
 
 returns : tie.Need-returns
 returns c =

@@ -1,13 +1,14 @@
 -- `put_runs` meets its contract. The loop's invariant: the line holds all runs before node `at`.
 -- Assumes nothing.
 use mathlib.Core.Path.{_≡_, subst}
-use Prim.Native.Nat.{ℕ, _-_, _≤_}
+use Prim.Native.Nat.{_-_, _≤_}
 use borrow.Author.Needs.{needs}
 use native.Mathlib.Omega.{arith}
 use Rattle.rules.specs.declared.Node.{Node}
 use Rattle.nodelist.specs.declared.writer.NextRun.the-variants.{Run as Span}
 use Rattle.nodelist.specs.Writer.{FirstFrom}
-use Rattle.nodelist.proofs.LineLaws.{Lined, lined-start, lined-room, lined-step, lined-end, no-run-past}
+use Rattle.nodelist.proofs.Runs.{no-run-past}
+use Rattle.nodelist.proofs.LineLaws.{Lined, lined-start, lined-room, lined-step, lined-end}
 use Rattle.nodelist.proofs.writer.put_runs.Statement.{statement}
 use Rattle.nodelist.proofs.writer.put_runs.Tie as tie
 

@@ -1,13 +1,13 @@
 -- `Mask::ranked` meets its contract. The loop's invariant: what is out and what the nodes left take of the bits left is all.
 -- Assumes nothing.
-use Prim.Native.Nat.{ℕ, _-_, _%_, _^_, _<_}
+use Prim.Native.Nat.{ℕ, _%_, _^_, _<_}
 use mathlib.Core.Path.{_≡_, refl, _∙_}
 use mathlib.Core.Bool.{_||_}
 use native.Mathlib.Omega.{arith}
 use borrow.Author.Needs.{needs}
 use lib.Bits.{or-lt}
 use lib.Pow.{shl-exact}
-use Rattle.rules.specs.Masks.{has, lowest}
+use Rattle.rules.specs.Masks.{has}
 use Rattle.nodemask.specs.Ranks.{rankedIn}
 use Rattle.nodemask.proofs.RankLaws.{byRank, both-left, ranked-start, ranked-more, ranked-all, lowest-is, lowest-less}
 use Rattle.nodemask.proofs.Mask.ranked.Statement.{statement}

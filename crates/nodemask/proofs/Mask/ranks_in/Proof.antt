@@ -1,6 +1,6 @@
 -- `Mask::ranks_in` meets its contract.
 -- Assumes nothing.
-use Prim.Native.Nat.{_-_, _^_, _<_}
+use Prim.Native.Nat.{_^_, _<_}
 use mathlib.Core.Path.{ap, _∙_}
 use native.Mathlib.Nat.{lt-of-le-of-lt}
 use native.Mathlib.Omega.{arith}

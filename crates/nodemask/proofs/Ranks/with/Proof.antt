@@ -1,9 +1,7 @@
 -- `Ranks::with` meets its contract: `m | (1 << r)` is m with rank r.
 -- Assumes nothing.
-use mathlib.Core.Path.{ap, _∙_}
 use borrow.Author.Needs.{needs}
-use lib.Bits.{bitOr}
-use Rattle.rules.proofs.Masks.{one-shifted, or-one}
+use Rattle.rules.proofs.Masks.{or-shifted}
 use Rattle.nodemask.proofs.Ranks.with.Statement.{statement}
 use Rattle.nodemask.proofs.Ranks.with.Tie as tie
 
@@ -14,11 +12,7 @@ shl-t4 : tie.Need-shl-t4
 shl-t4 c = search needs
 
 returns : tie.Need-returns
-returns c =
-    let s = c .before .before in
-    let m = s .args .self .0 in
-    let n = s .args .rank .0 in
-    ap (bitOr m) (one-shifted 64 n (s .pre)) ∙ or-one m n
+returns c = let s = c .before .before in or-shifted 64 (s .args .self .0) (s .args .rank .0) (s .pre)
 
 pub with-spec : {M : Type 1} → statement M
 with-spec = tie.close (tie.spec cast-t3 shl-t4 returns)

@@ -29,7 +29,9 @@ digit-requires c κs = search needs
 
 returns-4 : tie.Need-returns-4
 unfolding withByte
-returns-4 c = rw (ne-eqb _ 45 (c .before .before .before .if1 .left), le-leb 48 _ (c .before .before .if2 .left), le-leb _ 57 (c .before .if3 .left), c .digit .ensures)
+returns-4 c =
+    let t = c .before in
+    rw (ne-eqb _ 45 (t .before .before .if1 .left), le-leb 48 _ (t .before .if2 .left), le-leb _ 57 (t .if3 .left), c .digit .ensures)
 
 pub byte-spec : {M : Type 1} → statement M
 byte-spec =

@@ -1,57 +1,17 @@
 -- Laws of node-list text: numbers, and a text by its parts.
 -- Assumes nothing.
-use mathlib.Core.Path.{_≡_, refl, sym, ap, _∙_}
-use mathlib.Core.Logic.{_⊎_, inl, inr, ⊎-elim}
-use mathlib.Core.Bool.{Bool, true, false, not, _&&_, _||_, cond, false≢true, and-false, and-true}
-use mathlib.Core.List.{List, [], _∷_, _++_, map, append-nil}
-use Prim.Native.Nat.{ℕ, suc, _+_, _-_, _*_, _≤_, _<_}
-use native.Mathlib.Decide.{ℕ-discrete}
+use mathlib.Core.Path.{_≡_, refl, sym, ap, ap₂, _∙_}
+use mathlib.Core.Bool.{Bool, true, false, not, _&&_, _||_, cond, false≢true, and-false, and-true, or-false, or-true}
+use mathlib.Core.List.{List, [], _∷_, _++_, append-nil, List·Memᴰ·head, Memᴰ·append-left, Memᴰ·append-right}
+use Prim.Native.Nat.{ℕ, _+_, _-_, _*_, _≤_, _<_}
 use native.Mathlib.Nat.{le-antisymm, le-refl, zero-lt-suc, lt-irrefl}
 use native.Mathlib.Omega.{arith}
 use lib.ListN.{length, getD, length-append, List·getD-append}
-use lib.Dec.{eqb, leb}
-use borrow.Author.Tests.{eqb-true, eqb-false, eq-eqb, ne-eqb, ltb-true, lt-ltb, leb-true, le-leb, not-true}
+use lib.Dec.{eqb, leb, lit<}
+use borrow.Author.Tests.{eqb-true, eq-eqb, ne-eqb, ltb-true, lt-ltb, not-true}
 use Rattle.rules.specs.Basics.{all, any, isEmpty, between}
 use Rattle.rules.specs.Text.{comma, dash, split, onto, valueFrom, value, isNumber, isItem, itemHas, itemsOf, isItems, names}
-use Rattle.rules.proofs.Lists.{both-true, both-hold, fails, any-true, all-true}
-
--- ---- tests
-
--- or nothing else
-pub or-false : (a : Bool) → (a || false) ≡ a
-or-false true = refl
-or-false false = refl
-
--- one of three, in any grouping
-pub or-assoc : (a b c : Bool) → (a || b || c) ≡ (a || (b || c))
-or-assoc true b c = refl
-or-assoc false b c = refl
-
--- ---- every byte of a text
-
--- what holds of every byte of two texts holds of both end to end
-pub all-append : {A : Type 0} (p : A → Bool) (xs ys : List A) → all p xs ≡ true → all p ys ≡ true → all p (xs ++ ys) ≡ true
-unfolding all
-all-append p [] ys h l = l
-all-append p (x ∷ xs) ys h l = let b = both-true {a = p x} h in both-hold (b .0) (all-append p xs ys (b .1) l)
-
--- what holds of every byte of two texts end to end holds of the first
-pub all-left : {A : Type 0} (p : A → Bool) (xs ys : List A) → all p (xs ++ ys) ≡ true → all p xs ≡ true
-unfolding all
-all-left p [] ys h = refl
-all-left p (x ∷ xs) ys h = let b = both-true {a = p x} h in both-hold (b .0) (all-left p xs ys (b .1))
-
--- and of the second
-pub all-right : {A : Type 0} (p : A → Bool) (xs ys : List A) → all p (xs ++ ys) ≡ true → all p ys ≡ true
-unfolding all
-all-right p [] ys h = h
-all-right p (x ∷ xs) ys h = all-right p xs ys (both-true {a = p x} h .1)
-
--- a stronger test
-pub all-weaker : {A : Type 0} (p q : A → Bool) (xs : List A) → ((x : A) → p x ≡ true → q x ≡ true) → all p xs ≡ true → all q xs ≡ true
-unfolding all
-all-weaker p q [] f h = refl
-all-weaker p q (x ∷ xs) f h = let b = both-true {a = p x} h in both-hold (f x (b .0)) (all-weaker p q xs f (b .1))
+use Rattle.rules.proofs.Lists.{both-true, both-hold, same-test, fails, between-true, true-between, any-true, all-true, true-all, all-append}
 
 -- ---- a text by its parts
 
@@ -81,22 +41,21 @@ split-free c (x ∷ p) q h t f e =
 -- a text without c is one part
 pub split-one : (c : ℕ) (p : List ℕ) → free c p ≡ true → split c p ≡ p ∷ []
 unfolding split
-split-one c p f = ap (split c) (sym (append-nil p)) ∙ split-free c p [] [] [] f refl ∙ ap (λ (l : List ℕ). l ∷ []) (append-nil p)
+split-one c p f = rw append-nil at (split-free c p [] [] [] f refl)
 
 -- c ends the first part
 pub split-at : (c : ℕ) (p q : List ℕ) → free c p ≡ true → split c (p ++ c ∷ q) ≡ p ∷ split c q
 unfolding split
-split-at c p q f = split-free c p (c ∷ q) [] (split c q) f (rw (eq-eqb c c refl)) ∙ ap (λ (l : List ℕ). l ∷ split c q) (append-nil p)
+split-at c p q f = rw (append-nil p) at (split-free c p (c ∷ q) [] (split c q) f (rw (eq-eqb c c refl)))
 
 -- ---- numbers
 
 -- one number is the range from it to itself
 pub between-one : (v k : ℕ) → eqb k v ≡ between v v k
-between-one v k = go (ℕ-discrete k v)
-  where
-    go : Dec (k ≡ v) → eqb k v ≡ between v v k
-    go (yes e) = rw (eq-eqb k v e, le-leb v k (omega arith), le-leb k v (omega arith))
-    go (no e) = ne-eqb k v e ∙ sym (fails (λ t. e (le-antisymm (leb-true k v (both-true {a = leb v k} t .1)) (leb-true v k (both-true {a = leb v k} t .0)))))
+between-one v k =
+    same-test
+    (λ t. true-between v v k (omega (arith, eqb-true k v t)) (omega (arith, eqb-true k v t)))
+    (λ t. let b = between-true v v k t in eq-eqb k v (le-antisymm (b .1) (b .0)))
 
 abbrev digitsOnly : List ℕ → Bool
 digitsOnly ds = all (between 48 57) ds
@@ -108,16 +67,8 @@ noLeadingZero ds = eqb (length ds) 1 || not (eqb (getD ds 0 0) 48)
 pub record Number (limit : ℕ) (ds : List ℕ) : Type 0 where
   pub digits : digitsOnly ds ≡ true
   pub some : 0 < length ds
-  pub plain : (length ds ≡ 1) ⊎ (getD ds 0 0 ≡ 48 → ⊥)
+  pub plain : noLeadingZero ds ≡ true
   pub small : value ds < limit
-
-or-cases : (a b : Bool) → (a || b) ≡ true → (a ≡ true) ⊎ (b ≡ true)
-or-cases true b h = inl refl
-or-cases false b h = inr h
-
-or-right : (a : Bool) → (a || true) ≡ true
-or-right true = refl
-or-right false = refl
 
 -- a text that passes the test is a number
 pub number-is : (limit : ℕ) (ds : List ℕ) → isNumber limit ds ≡ true → Number limit ds
@@ -126,25 +77,13 @@ number-is limit [] h = absurd (false≢true h)
 number-is limit (d ∷ ds) h =
     let a = both-true {a = digitsOnly (d ∷ ds) && noLeadingZero (d ∷ ds)} h in
     let b = both-true {a = digitsOnly (d ∷ ds)} (a .0) in
-    record {
-      digits = b .0;
-      some = zero-lt-suc (length ds);
-      plain = ⊎-elim
-          (λ e. inl (eqb-true (length (d ∷ ds)) 1 e))
-          (λ e. inr (eqb-false d 48 (not-true (eqb d 48) e)))
-          (or-cases (eqb (length (d ∷ ds)) 1) (not (eqb d 48)) (b .1));
-      small = ltb-true (value (d ∷ ds)) limit (a .1);
-    }
+    record { digits = b .0; some = zero-lt-suc (length ds); plain = b .1; small = ltb-true (value (d ∷ ds)) limit (a .1) }
 
 -- a number passes the test
 pub is-number : (limit : ℕ) (ds : List ℕ) → Number limit ds → isNumber limit ds ≡ true
 unfolding isNumber isEmpty
 is-number limit [] n = absurd (omega (arith, n .some))
-is-number limit (d ∷ ds) n = both-hold (both-hold (n .digits) (plain (n .plain))) (lt-ltb (value (d ∷ ds)) limit (n .small))
-  where
-    plain : (length (d ∷ ds) ≡ 1) ⊎ (d ≡ 48 → ⊥) → noLeadingZero (d ∷ ds) ≡ true
-    plain (inl e) = rw (eq-eqb (length (d ∷ ds)) 1 e)
-    plain (inr e) = rw (ne-eqb d 48 e) (or-right (eqb (length (d ∷ ds)) 1))
+is-number limit (d ∷ ds) n = both-hold (both-hold (n .digits) (n .plain)) (lt-ltb (value (d ∷ ds)) limit (n .small))
 
 -- the value of a text read on
 pub value-append : (v : ℕ) (xs ys : List ℕ) → valueFrom v (xs ++ ys) ≡ valueFrom (valueFrom v xs) ys
@@ -158,27 +97,35 @@ unfolding valueFrom
 value-grows v [] = le-refl v
 value-grows v (x ∷ xs) = omega (arith, value-grows (v * 10 + (x - 48)) xs)
 
+-- digits are neither commas nor dashes
+pub digits-free : (c : ℕ) (ds : List ℕ) → c < 48 → digitsOnly ds ≡ true → free c ds ≡ true
+digits-free c ds l d =
+    true-all (λ x. not (eqb x c)) ds
+    (λ x m. ap not (ne-eqb x c (λ e. lt-irrefl c (omega (arith, between-true 48 57 x (all-true (between 48 57) d m) .0)))))
+
 -- ---- a number and one digit more
 
 -- one digit
 pub number-one : (limit x : ℕ) → between 48 57 x ≡ true → x - 48 < limit → Number limit (x ∷ [])
 unfolding all valueFrom
-number-one limit x d l = record { digits = both-hold d refl; some = zero-lt-suc 0; plain = inl refl; small = omega arith }
+number-one limit x d l = record { digits = both-hold d refl; some = zero-lt-suc 0; plain = refl; small = omega arith }
 
 -- the value with one digit more
 pub value-snoc : (ds : List ℕ) (x : ℕ) → value (ds ++ x ∷ []) ≡ value ds * 10 + (x - 48)
 unfolding valueFrom
 value-snoc ds x = value-append 0 ds (x ∷ [])
 
+-- two digits or more that start with 0 are no number
+leading : (ds : List ℕ) → 1 < length ds → getD ds 0 0 ≡ 48 → noLeadingZero ds ≡ true → ⊥
+leading ds l e h =
+    false≢true (sym (ap₂ (λ (a b : Bool). a || not b) (ne-eqb (length ds) 1 (λ q. lt-irrefl 1 (omega arith))) (eq-eqb (getD ds 0 0) 48 e)) ∙ h)
+
 -- a number that is not 0 does not start with 0
 first-not-zero : (limit : ℕ) (ds : List ℕ) → Number limit ds → (value ds ≡ 0 → ⊥) → getD ds 0 0 ≡ 48 → ⊥
 unfolding valueFrom
 first-not-zero limit [] n v e = v refl
-first-not-zero limit (d ∷ ds) n v e = ⊎-elim (λ l. v (only ds l)) (λ q. q e) (n .plain)
-  where
-    only : (ds : List ℕ) → suc (length ds) ≡ 1 → value (d ∷ ds) ≡ 0
-    only [] l = omega arith
-    only (x ∷ xs) l = absurd (omega arith)
+first-not-zero limit (d ∷ []) n v e = v (omega arith)
+first-not-zero limit (d ∷ x ∷ ds) n v e = leading (d ∷ x ∷ ds) (omega arith) e (n .plain)
 
 -- a number, not 0, and a digit more are a number if they stay below the limit
 pub number-more : (limit : ℕ) (ds : List ℕ) (x : ℕ) → Number limit ds → (value ds ≡ 0 → ⊥) → between 48 57 x ≡ true
@@ -187,7 +134,7 @@ unfolding all
 number-more limit ds x n v d l = record {
   digits = all-append (between 48 57) ds (x ∷ []) (n .digits) (both-hold d refl);
   some = simp length-append (omega arith);
-  plain = inr (λ e. first-not-zero limit ds n v (sym (List·getD-append ds (x ∷ []) 0 0 (n .some)) ∙ e));
+  plain = rw (List·getD-append ds (x ∷ []) 0 0 (n .some), ne-eqb (getD ds 0 0) 48 (first-not-zero limit ds n v)) (or-true (eqb (length (ds ++ x ∷ [])) 1));
   small = rw (value-snoc ds x) l;
 }
 
@@ -202,10 +149,9 @@ no-number limit p f q = fails (λ e. f q (number-is limit (p ++ q) e))
 
 -- a byte that is no digit
 pub not-digit : (limit : ℕ) (ds : List ℕ) (x : ℕ) → between 48 57 x ≡ false → NoNumber limit (ds ++ x ∷ [])
-unfolding all
 not-digit limit ds x e =
     no-number limit (ds ++ x ∷ [])
-    (λ q n. false≢true (sym e ∙ both-true {a = between 48 57 x} (all-right (between 48 57) ds (x ∷ []) (all-left (between 48 57) (ds ++ x ∷ []) q (n .digits))) .0))
+    (λ q n. false≢true (sym e ∙ all-true (between 48 57) (n .digits) (Memᴰ·append-left q (Memᴰ·append-right ds (List·Memᴰ·head refl)))))
 
 -- a value at the limit or above
 pub too-large : (limit : ℕ) (ds : List ℕ) → limit ≤ value ds → NoNumber limit ds
@@ -217,15 +163,14 @@ first-zero : (ds : List ℕ) → digitsOnly ds ≡ true → 0 < length ds → va
 unfolding all valueFrom
 first-zero [] d l v = absurd (omega arith)
 first-zero (x ∷ xs) d l v =
-    let low : 48 ≤ x = leb-true 48 x (both-true {a = leb 48 x} (both-true {a = between 48 57 x} d .0) .0) in
-    omega (arith, value-grows (0 * 10 + (x - 48)) xs)
+    omega (arith, between-true 48 57 x (both-true {a = between 48 57 x} d .0), value-grows (0 * 10 + (x - 48)) xs)
 
 -- 0 and a digit more
 pub leading-zero : (limit : ℕ) (ds : List ℕ) (x : ℕ) → Number limit ds → value ds ≡ 0 → NoNumber limit (ds ++ x ∷ [])
-leading-zero limit ds x n v = no-number limit (ds ++ x ∷ []) (λ q m. ⊎-elim (long q) (λ e. e (first q)) (m .plain))
+leading-zero limit ds x n v = no-number limit (ds ++ x ∷ []) (λ q m. leading (ds ++ x ∷ [] ++ q) (long q) (first q) (m .plain))
   where
-    long : (q : List ℕ) → length (ds ++ x ∷ [] ++ q) ≡ 1 → ⊥
-    long q e = omega (arith, n .some, simp length-append at e)
+    long : (q : List ℕ) → 1 < length (ds ++ x ∷ [] ++ q)
+    long q = simp length-append (omega (arith, n .some))
 
     first : (q : List ℕ) → getD (ds ++ x ∷ [] ++ q) 0 0 ≡ 48
     first q =
@@ -235,10 +180,23 @@ leading-zero limit ds x n v = no-number limit (ds ++ x ∷ []) (λ q m. ⊎-elim
 
 -- ---- items
 
--- digits are neither commas nor dashes
-pub digits-free : (c : ℕ) (ds : List ℕ) → c < 48 → all (between 48 57) ds ≡ true → free c ds ≡ true
-digits-free c ds l = all-weaker (between 48 57) (λ x. not (eqb x c)) ds
-    (λ x d. ap not (ne-eqb x c (λ e. lt-irrefl c (omega (arith, leb-true 48 x (both-true {a = leb 48 x} d .0))))))
+-- a number has no dash
+pub number-free : {limit : ℕ} {a : List ℕ} → Number limit a → free dash a ≡ true
+number-free {a = a} n = digits-free dash a (lit< tt) (n .digits)
+
+-- so it is one part between dashes
+pub split-number : {limit : ℕ} {a : List ℕ} → Number limit a → split dash a ≡ a ∷ []
+split-number {a = a} n = split-one dash a (number-free n)
+
+-- and two numbers with a dash between them are two
+pub split-range : {limit : ℕ} {a b : List ℕ} → Number limit a → Number limit b → split dash (a ++ dash ∷ b) ≡ a ∷ b ∷ []
+split-range {a = a} {b = b} n m = split-at dash a b (number-free n) ∙ ap (λ (t : List (List ℕ)). a ∷ t) (split-number m)
+
+-- they are an item if the first is at most the second
+pub item-range : {limit : ℕ} {a b : List ℕ} → Number limit a → Number limit b
+    → isItem limit (split dash (a ++ dash ∷ b)) ≡ leb (value a) (value b)
+unfolding isItem
+item-range {limit} {a} {b} n m = rw (split-range n m, is-number limit a n, is-number limit b m)
 
 -- an item whose first part is no number
 pub item-first : (limit : ℕ) (a : List ℕ) (ps : List (List ℕ)) → isNumber limit a ≡ false → isItem limit (a ∷ ps) ≡ false
@@ -256,22 +214,22 @@ item-second limit a b (c ∷ ps) e = refl
 -- a text without a comma is one item
 pub items-one : (limit : ℕ) (p : List ℕ) → free comma p ≡ true → isItems limit p ≡ isItem limit (split dash p)
 unfolding isItems itemsOf all
-items-one limit p f = ap (λ (ps : List (List ℕ)). all (isItem limit) (map (split dash) ps)) (split-one comma p f) ∙ and-true (isItem limit (split dash p))
+items-one limit p f = rw (split-one comma p f) (and-true (isItem limit (split dash p)))
 
 -- and names what that item names
 pub names-one : (p : List ℕ) (k : ℕ) → free comma p ≡ true → names p k ≡ itemHas k (split dash p)
 unfolding names itemsOf any
-names-one p k f = ap (λ (ps : List (List ℕ)). any (itemHas k) (map (split dash) ps)) (split-one comma p f) ∙ or-false (itemHas k (split dash p))
+names-one p k f = rw (split-one comma p f) (or-false (itemHas k (split dash p)))
 
 -- a comma ends the first item
 pub items-more : (limit : ℕ) (p q : List ℕ) → free comma p ≡ true → isItems limit (p ++ comma ∷ q) ≡ (isItem limit (split dash p) && isItems limit q)
 unfolding isItems itemsOf all
-items-more limit p q f = ap (λ (ps : List (List ℕ)). all (isItem limit) (map (split dash) ps)) (split-at comma p q f)
+items-more limit p q f = rw (split-at comma p q f)
 
 -- and the text names what the first item and the rest name
 pub names-more : (p q : List ℕ) (k : ℕ) → free comma p ≡ true → names (p ++ comma ∷ q) k ≡ (itemHas k (split dash p) || names q k)
 unfolding names itemsOf any
-names-more p q k f = ap (λ (ps : List (List ℕ)). any (itemHas k) (map (split dash) ps)) (split-at comma p q f)
+names-more p q k f = rw (split-at comma p q f)
 
 -- an item names numbers below the limit only
 item-below : (limit : ℕ) (ps : List (List ℕ)) (k : ℕ) → isItem limit ps ≡ true → itemHas k ps ≡ true → k < limit
@@ -280,7 +238,7 @@ item-below limit [] k e h = absurd (false≢true e)
 item-below limit (a ∷ []) k e h = omega (arith, eqb-true k (value a) h, number-is limit a e .small)
 item-below limit (a ∷ b ∷ []) k e h =
     let n = both-true {a = isNumber limit a} (both-true {a = isNumber limit a && isNumber limit b} e .0) in
-    omega (arith, leb-true k (value b) (both-true {a = leb (value a) k} h .1), number-is limit b (n .1) .small)
+    omega (arith, between-true (value a) (value b) k h .1, number-is limit b (n .1) .small)
 item-below limit (a ∷ b ∷ c ∷ ps) k e h = absurd (false≢true e)
 
 -- "Numbers .. lie below N": so do all that items name
