@@ -1,21 +1,20 @@
-// The journal program: document 01, "The journal program". Standard input to standard output, a part at a time.
+// The journal program: document 01, "The journal program". Standard input to standard output; the whole records that have arrived are
+// answered without waiting for more.
 
-ghost use mathlib.Core.Bool.{true};
 ghost use mathlib.Core.Path.{_≡_};
-ghost use Prim.Native.Nat.{_≤_};
 ghost use lib.ListN.{length};
-ghost use Rattle.rules.specs.Calls.{accept, requestTablesOk};
+ghost use Rattle.rules.specs.Calls.{accept};
 ghost use Rattle.rules.specs.Journal.{machineSize};
-ghost use Rattle.machine.specs.Tables.{machineOf};
-ghost use Rattle.placement.specs.Lent.{tablesOf};
 ghost use Rattle.journal.specs.Enums.{verdict};
+ghost use Rattle.placer.specs.Parts.{AtMost};
 use journal::answer;
 use journal::opening;
 use journal::opening::Opening;
 use journal::reading;
-use journal::run;
-use libc::STDIN_FILENO;
-use libc::STDOUT_FILENO;
+use stdio::Got;
+
+mod part;
+mod stdio;
 
 // The longest machine record, in zeros: 16 nodes and 64 CPUs.
 fn opening_buffer() -> [u8; 358]
@@ -24,62 +23,27 @@ fn opening_buffer() -> [u8; 358]
     [0; 358]
 }
 
-// Room for 2,049 answers, in zeros: a part has 2,048 records.
-fn answer_buffer() -> [u8; 24588]
-    ensures { λ r. ⌜ 24588 ≡ length r ⌝ }
-{
-    [0; 24588]
-}
-
-// Reads the machine record: its six head bytes, and as many more as these say.
-fn read_opening(bytes: &mut [u8]) -> usize
+// Reads the machine record: its six head bytes, and as many more as these say; fewer at the end of input.
+fn read_opening(bytes: &mut [u8]) -> Got
     requires { ⌜ 358 ≡ length (now bytes) ⌝ }
-    ensures { λ r. ⌜ r ≤ 358 ⌝ }
-{
-    let head = io::read_full(STDIN_FILENO, &mut bytes[..6]);
-    if head < 6 {
-        return head;
-    }
-    let size = opening::opening_size(bytes);
-    let rest = io::read_full(STDIN_FILENO, &mut bytes[6..size]);
-    6 + rest
-}
-
-// Reads a part of the records and writes their answers. Does the run go on?
-fn answer_part(
-    counts: &[u32],
-    cpus: &[u8],
-    distances: &[u8],
-    pages: &mut [u8],
-    jobs: &mut [u64],
-) -> bool
-    requires { ⌜ requestTablesOk (machineOf (now counts) (now cpus) (now distances)) (tablesOf (now pages) (now jobs)) ≡ true ⌝ }
-{
-    let mut input = io::large_buffer();
-    let mut output = answer_buffer();
-    let n = io::read_full(STDIN_FILENO, &mut input);
-    let ran = run::run_calls(
-        counts,
-        cpus,
-        distances,
-        pages,
-        jobs,
-        &input[..n],
-        &mut output,
-    );
-    let written = ran.written;
-    let told = io::write_all(STDOUT_FILENO, &output[..written]);
-    told & ran.more & (n == 65536)
-}
-
-// All parts. A proved loop has to end, and nothing says that the input does: it counts down from a number that no run uses up.
-fn answer_parts(counts: &[u32], cpus: &[u8], distances: &[u8], pages: &mut [u8], jobs: &mut [u64])
-    requires { ⌜ requestTablesOk (machineOf (now counts) (now cpus) (now distances)) (tablesOf (now pages) (now jobs)) ≡ true ⌝ }
+    ensures { λ r. ⌜ AtMost 358 r ⌝ }
 {
     let mut turns = u64::MAX;
-    while turns > 0 && answer_part(counts, cpus, distances, pages, jobs) {
+    let mut done = 0;
+    let mut size = 6;
+    while turns > 0 && done < size {
+        let got = stdio::read_some(&mut bytes[done..size]);
+        match got {
+            Got::Bytes(n) => done += n,
+            Got::End => return Got::Bytes(done),
+            Got::Failed => return Got::Failed,
+        }
+        if done == 6 {
+            size = opening::opening_size(bytes);
+        }
         turns -= 1;
     }
+    Got::Bytes(done)
 }
 
 // The records after a good machine record, on free pages and fresh jobs.
@@ -94,19 +58,22 @@ fn answer_records(bytes: &[u8])
     let mut jobs = journal::fresh_jobs();
     let cpus = opening::cpu_bytes(bytes);
     let distances = opening::distance_bytes(bytes);
-    answer_parts(counts, cpus, distances, &mut pages[..total], &mut jobs);
+    part::answer_parts(counts, cpus, distances, &mut pages[..total], &mut jobs);
 }
 
+// A read that fails ends the run, and is never answered as a damaged journal.
 fn main() {
     let mut buffer = opening_buffer();
-    let n = read_opening(&mut buffer);
+    let Got::Bytes(n) = read_opening(&mut buffer) else {
+        return;
+    };
     let bytes = &buffer[..n];
     let found = opening::verdict(bytes);
     match found {
         Opening::Good(_) => answer_records(bytes),
         Opening::Faulty(refusal) => {
             let fault = answer::fault_bytes(refusal);
-            io::write_all(STDOUT_FILENO, &fault);
+            stdio::write_all(&fault);
         }
     }
 }
