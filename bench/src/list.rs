@@ -36,7 +36,7 @@ pub fn replay(
     let mut starts = [0; 65];
     let mut map = Map::new(&mut starts, counts, cpus, distances, pages.len(), jobs.len()).ok_or(1)?;
     let (calls, rest) = calls.as_chunks();
-    let bad = |call: &[u64; 16]| call[0].wrapping_sub(1) > 4 || (call[0] == 4 && call[5] > 64);
+    let bad = |call: &[u64; 16]| call[0].wrapping_sub(1) > 4;
     if !rest.is_empty() || calls.iter().any(bad) {
         return Err(13);
     }

@@ -22,7 +22,7 @@ pub const WAYS: [Way; 4] = [Way::LibraryCalls, Way::FastCalls, Way::LibraryRepla
 /// The words of a call for replay.
 pub fn words_of(call: &Call) -> [u64; 16] {
     let wide = |number: &usize| *number as u64;
-    let call = match call {
+    spirerivet::words_of(&match call {
         Call::Request { job, cpu } => spirerivet::Call::Request { job: wide(job), cpu: wide(cpu) },
         Call::Release { job, page } => spirerivet::Call::Release { job: wide(job), page: wide(page) },
         Call::Rebind { job, allowed } => spirerivet::Call::Rebind { job: wide(job), allowed: *allowed },
@@ -30,8 +30,7 @@ pub fn words_of(call: &Call) -> [u64; 16] {
             spirerivet::Call::Install { job: wide(job), mode: *mode, flag: *flag, mask: *mask, places }
         }
         Call::Clear { job } => spirerivet::Call::Clear { job: wide(job) },
-    };
-    spirerivet::words_of(&call).expect("at most 64 places")
+    })
 }
 
 /// The library's answer as a word.

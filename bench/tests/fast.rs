@@ -50,7 +50,6 @@ fn runs_of_calls_agree() {
 fn replays_agree() {
     for seed in 200..300 {
         for (start, calls) in [list(seed, 150), journal_parts(seed, 150)] {
-            let calls: Vec<Call> = calls.into_iter().filter(short_list).collect();
             let words: Vec<u64> = calls.iter().flat_map(words_of).collect();
             let mut tables = start.clone();
             let mut fast_tables = start;
@@ -64,11 +63,6 @@ fn replays_agree() {
             assert!(fast_tables == tables, "seed {seed}");
         }
     }
-}
-
-/// A call that has room for its places.
-fn short_list(call: &Call) -> bool {
-    !matches!(call, Call::Install { places, .. } if places.len() > 64)
 }
 
 /// Both replays on the same list: the careful one and the library's.
@@ -88,7 +82,6 @@ fn both_replays(start: &Tables, words: &[u64], room: usize) -> Result<usize, u8>
 fn bad_lists_are_refused_alike() {
     for seed in 0..60 {
         let (start, calls) = list(seed, 20);
-        let calls: Vec<Call> = calls.into_iter().filter(short_list).collect();
         let words: Vec<u64> = calls.iter().flat_map(words_of).collect();
         assert_eq!(both_replays(&start, &words, calls.len()), Ok(calls.len()));
         assert_eq!(both_replays(&start, &words, calls.len() - 1), Err(11));
@@ -98,10 +91,22 @@ fn bad_lists_are_refused_alike() {
             words[16 * (seed as usize % calls.len())] = kind;
             assert_eq!(both_replays(&start, &words, calls.len()), Err(13));
         }
-        let install = [4, 0, 4, 0, 0, 65, 0, 0, 0, 0, 0, 0, 0, 0, 0, 0];
-        assert_eq!(both_replays(&start, &install, 1), Err(13));
         let mut broken = start.clone();
         broken.distances[0] = 11;
         assert_eq!(both_replays(&broken, &words, 0), Err(1));
+    }
+}
+
+#[test]
+fn installs_of_any_number_of_places_are_answered_alike() {
+    for seed in 0..60 {
+        let (start, _) = list(seed, 1);
+        for length in [0, 1, 15, 16, 17, 64, 65, 256, 257, 1 << 32, u64::MAX] {
+            for mode in 0..8 {
+                let mut install = [0x0807_0605_0403_0201; 16];
+                install[..6].copy_from_slice(&[4, 0, mode, 0, 0, length]);
+                assert_eq!(both_replays(&start, &install, 1), Ok(1), "{length} places");
+            }
+        }
     }
 }

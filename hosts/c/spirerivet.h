@@ -43,7 +43,7 @@ enum spire_refusal {
     SPIRE_NOT_HELD = 10,          /* no such page, or not this job's */
     SPIRE_OUTPUT_TOO_SHORT = 11,
     SPIRE_BAD_TEXT = 12,
-    SPIRE_DAMAGED_JOURNAL = 13    /* a replay's list of calls is damaged */
+    SPIRE_DAMAGED_JOURNAL = 13    /* a replay's list of calls has an unknown kind or is cut short */
 };
 
 enum spire_mode {
@@ -97,16 +97,18 @@ struct spire_number spire_read_nodes(size_t nodes, uint64_t allowed, const uint8
 struct spire_number spire_write_nodes(size_t nodes, uint64_t mask, uint8_t *out, size_t out_bytes);
 
 /* A list of calls, one after the other: how many. A call is SPIRE_CALL_WORDS words: kind (1 request, 2 release, 3 rebind,
- * 4 install, 5 clear); job; CPU, page, allowed mask or mode; flag; user mask; number of places; two words unused; then up
- * to 64 places, one byte each, lowest byte first. An answer is one word: refusal in bits 0-7, node in 8-15, page in 32-63.
- * Writes pages, jobs and an answer for each call. Refusals, then with no call run: 1, 13, 11. */
+ * 4 install, 5 clear); job; CPU, page, allowed mask or mode; flag; user mask; number of places; two words unused; then the
+ * first 64 places, one byte each, lowest byte first. Any number of places may be said, those past the 64th are zero: over
+ * SPIRE_PLACES of them the install is refused in its own order, as in spire_install. An answer is one word: refusal in bits
+ * 0-7, node in 8-15, page in 32-63. Writes pages, jobs and an answer for each call. Refusals, then with no call run: 1; 13
+ * (an unknown kind, or call_words no multiple of SPIRE_CALL_WORDS); 11 (fewer answers than calls). */
 struct spire_number spire_replay(const uint32_t *counts, size_t nodes, const uint8_t *cpus, size_t cpu_count,
                                  const uint8_t *distances, size_t distance_count, uint8_t *pages, size_t page_count,
                                  uint64_t *jobs, size_t job_words, const uint64_t *calls, size_t call_words,
                                  uint64_t *answers, size_t answer_count);
 
-/* A whole journal, machine record first: the length of its answers, 12 bytes each. Writes that many bytes of output, which
- * must have room for an answer to each whole record of 32 bytes that fits into the input, and one more. Refusal 11. */
+/* A whole journal, machine record first: the length of its answers, 12 bytes each. Writes that many bytes of output. Refusal
+ * 11, exactly when output is shorter than that; 12 bytes for each 32 of the input, and 12 more, are always enough. */
 struct spire_number spire_journal(const uint8_t *input, size_t input_bytes, uint8_t *output, size_t output_bytes);
 
 #ifdef __cplusplus

@@ -12,8 +12,8 @@ use lib.Dec.{eqb}
 use Rattle.rules.specs.Basics.{all, Each}
 use Rattle.rules.specs.Machine.{Machine}
 use Rattle.rules.specs.Calls.{Tables}
-use Rattle.rules.specs.Book.{Call, install, rebind, step}
-use Rattle.rules.specs.Examples.{machineA}
+use Rattle.rules.specs.Book.{Call, rebind, step}
+use Rattle.rules.specs.Examples.{machineA, installs}
 use Rattle.rules.proofs.AllRight.{is-true}
 use Rattle.rules.proofs.Lists.{both-true}
 use Rattle.fairness.specs.Demand3.{Grant, setsPolicy, isRefused, PolicyKept, isOpen, row, timesNode, Fair}
@@ -49,5 +49,5 @@ not-kept c e u =
 pub without-premise : ((m : Machine) (t : Tables) (cs : List Call) (j : ℕ) → Fair m t cs j) → ⊥
 without-premise f =
     let c = rebind 0 11 in
-    let a = both-true {a = spoils c} {b = spoils (install 0 3 0 2 [])} (is-true _ premise-needed) in
+    let a = both-true {a = spoils c} {b = spoils (installs 0 3 0 2 [])} (is-true _ premise-needed) in
     unfair c (both-true {a = starves c} {b = barred c} (a .0) .0) (f machineA pair (after c) 0)

@@ -2,7 +2,7 @@
 -- Assumes nothing.
 use Prim.Native.Nat.{ℕ, zero, suc, _+_, _%_, _<_, zero-le}
 use mathlib.Core.Path.{_≡_, refl, sym, ap, _∙_}
-use mathlib.Core.Bool.{Bool, true, false, _&&_, cond}
+use mathlib.Core.Bool.{Bool, true, false, _&&_, cond, and-false}
 use mathlib.Core.Option.{Option, none, some}
 use mathlib.Core.List.{List, [], _∷_, map}
 use native.Mathlib.Nat.{add-zero, add-suc, suc-add, zero-lt-suc}
@@ -12,14 +12,14 @@ use lib.Dec.{eqb, ltb}
 use Rattle.rules.specs.Basics.{keep, first, around, between}
 use Rattle.rules.specs.Machine.{Machine, nodeCount}
 use Rattle.rules.specs.Masks.{maskBits, bit, has, isNone}
-use Rattle.rules.specs.Records.{Job, interleave, ring, carries, dataFits, noMasks, wellFormed, placesPerJob}
-use Rattle.rules.specs.SearchOrder.{Try, try, near, tried, nodeAt, ringTries, target, interleaved, orderIn, modeInForce, order, hasRoom, chosen}
+use Rattle.rules.specs.Records.{Record, Turn, lastIs, interleave, ring, rowOf, dataFits, noMasks, wellFormed, placesPerJob}
+use Rattle.rules.specs.SearchOrder.{Try, try, near, tried, nodeAt, ringTries, target, interleaved, planIn, modeInForce, plan, order, hasRoom, chosen}
 use Rattle.rules.specs.Calls.{Tables, limitOf, orderOf}
-use Rattle.rules.proofs.Lists.{both-true}
+use Rattle.rules.proofs.Lists.{both-true, map-member, first-keep, first-member}
 use Rattle.rules.proofs.Masks.{bit-above}
 use Rattle.rules.proofs.Near.{near-order}
 use Rattle.rules.proofs.WellFormed.{formed}
-use Rattle.fairness.specs.Demand3.{jobIn, isOpen, placeOpen}
+use Rattle.fairness.specs.Demand3.{recordIn, isOpen, placeOpen}
 
 -- ---- the first that passes
 
@@ -77,92 +77,90 @@ first-mapped {A} {B} f r q (x ∷ xs) s e = go (r (f x)) (q (f x)) refl e (first
 
 -- ---- ring
 
-flag-none : (n : ℕ) (j : Job) → wellFormed n j ≡ true → j .mode ≡ 5 → j .flag ≡ 0
-unfolding dataFits carries noMasks
+flag-none : (n : ℕ) (j : Record) → wellFormed n j ≡ true → j .mode ≡ 5 → j .flag ≡ 0
+unfolding dataFits rowOf noMasks
 flag-none n j w five =
     let d = rw five at (formed n j w .data-fits) in
     let a = both-true {a = noMasks j} {b = between 1 placesPerJob (j .len)} d .0 in
     let b = both-true {a = eqb (j .flag) 0 && isNone (j .user)} {b = isNone (j .effective)} a .0 in
     eqb-true (j .flag) 0 (both-true {a = eqb (j .flag) 0} {b = isNone (j .user)} b .0)
 
-in-ring : (n : ℕ) (j : Job) → wellFormed n j ≡ true → j .mode ≡ 5 → modeInForce j ≡ ring
+in-ring : (n : ℕ) (j : Record) → wellFormed n j ≡ true → j .mode ≡ 5 → modeInForce j ≡ ring
 unfolding modeInForce
 in-ring n j w five = rw (flag-none n j w five, five)
 
 -- A grant to a ring job: the place granted is the first that is open, and the cursor field becomes one more.
 pub record RingGrant (m : Machine) (t : Tables) (j : ℕ) (s : Try) : Type 0 where
   pub place : ℕ
-  pub by-turn : first (keep (placeOpen m t j) (around (jobIn t j .len) (jobIn t j .cursor) (jobIn t j .len))) ≡ some place
-  pub moves : s .cursor ≡ suc place
-  pub serves : s .node ≡ nodeAt (jobIn t j) place
+  pub by-turn : first (keep (placeOpen m t j) (around (recordIn t j .len) (recordIn t j .turn .cursor) (recordIn t j .len))) ≡ some place
+  pub moves : s .turn ≡ lastIs place
+  pub serves : s .node ≡ nodeAt (recordIn t j) place
 
-pub ring-grant : (m : Machine) (t : Tables) (j k : ℕ) (s : Try) → wellFormed (nodeCount m) (jobIn t j) ≡ true → jobIn t j .mode ≡ 5
-    → chosen m (t .ledger) (orderOf m t j k) ≡ some s → RingGrant m t j s
-unfolding chosen orderOf order orderIn tried ringTries placeOpen isOpen
+pub ring-grant : (m : Machine) (t : Tables) (j k : ℕ) (s : Try) → wellFormed (nodeCount m) (recordIn t j) ≡ true → recordIn t j .mode ≡ 5
+    → chosen (m .pageCounts) (t .ledger) (orderOf m t j k) ≡ some s → RingGrant m t j s
+unfolding chosen orderOf order plan planIn tried ringTries placeOpen isOpen
 ring-grant m t j k s w five e =
-    let J = jobIn t j in
+    let J = recordIn t j in
     let r =
-    first-mapped (λ (p : ℕ). try (suc p) (nodeAt J p)) (λ u. ltb (u .node) (nodeCount m) && has (limitOf t j) (u .node)) (λ u. hasRoom m (t .ledger) (u .node))
-    (around (J .len) (J .cursor) (J .len)) s (rw (in-ring (nodeCount m) J w five) at e) in
-    record { place = r .0; by-turn = r .1; moves = ap (λ (u : Try). u .cursor) (r .2); serves = ap (λ (u : Try). u .node) (r .2) }
+    first-mapped (λ (p : ℕ). try (lastIs p) (nodeAt J p)) (λ u. ltb (u .node) (nodeCount m) && has (limitOf t j) (u .node))
+    (λ u. hasRoom (m .pageCounts) (t .ledger) (u .node)) (around (J .len) (J .turn .cursor) (J .len)) s (rw (in-ring (nodeCount m) J w five) at e) in
+    record { place = r .0; by-turn = r .1; moves = ap (λ (u : Try). u .turn) (r .2); serves = ap (λ (u : Try). u .node) (r .2) }
 
 -- ---- interleave
-
-and-false : (b : Bool) → (b && false) ≡ false
-and-false true = refl
-and-false false = refl
 
 -- a mask with a node in it is not empty
 pub not-empty : (e q : ℕ) → has e q ≡ true → isNone e ≡ false
 not-empty e q h =
     ne-eqb e 0 (λ z. let x : bit 0 q ≡ 1 = eqb-true (bit 0 q) 1 (rw z at h) in omega (arith, bit-above 0 0 q (zero-lt-suc 0) zero-le))
 
-in-interleave : (j : Job) (q : ℕ) → j .mode ≡ 3 → has (j .effective) q ≡ true → modeInForce j ≡ interleave
+in-interleave : (j : Record) (q : ℕ) → j .mode ≡ 3 → has (j .effective) q ≡ true → modeInForce j ≡ interleave
 unfolding modeInForce
 in-interleave j q three h = rw (not-empty (j .effective) q h, and-false (eqb (j .flag) 1), three)
 
 -- A grant to an interleave job: the target is the next effective node, the cursor field becomes one more, and the target serves if it is open.
 pub record InterleaveGrant (m : Machine) (t : Tables) (j : ℕ) (s : Try) : Type 0 where
   pub goal : ℕ
-  pub by-turn : first (keep (has (jobIn t j .effective)) (around maskBits (jobIn t j .cursor) maskBits)) ≡ some goal
-  pub moves : s .cursor ≡ suc goal
+  pub by-turn : first (keep (has (recordIn t j .effective)) (around maskBits (recordIn t j .turn .cursor) maskBits)) ≡ some goal
+  pub moves : s .turn ≡ lastIs goal
   pub serves : isOpen m t j goal ≡ true → s .node ≡ goal
 
-chosen-cursor : (room : Try → Bool) (c : ℕ) (ns : List ℕ) (s : Try) → first (keep room (map (try c) ns)) ≡ some s → s .cursor ≡ c
-unfolding first keep
-chosen-cursor room c [] s e = absurd (let z : _≡_ {A = ℕ} 0 1 = cc in omega arith)
-chosen-cursor room c (n ∷ ns) s e = go (room (try c n)) e (chosen-cursor room c ns s)
-  where
-    go : (b : Bool) → first (cond b (try c n ∷ keep room (map (try c) ns)) (keep room (map (try c) ns))) ≡ some s
-        → (first (keep room (map (try c) ns)) ≡ some s → s .cursor ≡ c) → s .cursor ≡ c
-    go true e ih = let q : try c n ≡ s = cc in ap (λ (u : Try). u .cursor) (sym q)
-    go false e ih = ih e
+-- every try of near(x) leaves the same turn
+chosen-turn : (room : Try → Bool) (turn : Turn) (ns : List ℕ) (s : Try) → first (keep room (map (try turn) ns)) ≡ some s → s .turn ≡ turn
+chosen-turn room turn ns s e =
+    let f = first-keep room (map (try turn) ns) e in
+    ap (λ (u : Try). u .turn) (map-member (try turn) ns (first-member f) .2)
 
-pub interleave-grant : (m : Machine) (t : Tables) (j k q : ℕ) (s : Try) → jobIn t j .mode ≡ 3 → has (jobIn t j .effective) q ≡ true
-    → chosen m (t .ledger) (orderOf m t j k) ≡ some s → InterleaveGrant m t j s
-unfolding chosen orderOf order orderIn isOpen interleaved target first keep
-interleave-grant m t j k q s three h e = go (target (jobIn t j)) refl (rw (in-interleave (jobIn t j) q three h) at e)
+pub interleave-grant : (m : Machine) (t : Tables) (j k q : ℕ) (s : Try) → recordIn t j .mode ≡ 3 → has (recordIn t j .effective) q ≡ true
+    → chosen (m .pageCounts) (t .ledger) (orderOf m t j k) ≡ some s → InterleaveGrant m t j s
+unfolding chosen orderOf order plan planIn isOpen interleaved target tried first keep
+interleave-grant m t j k q s three h e =
+    go (target (recordIn t j .effective) (recordIn t j .turn .cursor)) refl (rw (in-interleave (recordIn t j) q three h) at e)
   where
     limit : ℕ
     limit = limitOf t j
 
     room : Try → Bool
-    room u = hasRoom m (t .ledger) (u .node)
+    room u = hasRoom (m .pageCounts) (t .ledger) (u .node)
 
-    at-head : (x : ℕ) (ns : List ℕ) → near m limit x ≡ x ∷ ns → hasRoom m (t .ledger) x ≡ true
-        → first (keep room (map (try (suc x)) (near m limit x))) ≡ some s → s .node ≡ x
+    nodes : ℕ → List ℕ
+    nodes x = near (nodeCount m) (m .distances) limit x
+
+    at-head : (x : ℕ) (ns : List ℕ) → nodes x ≡ x ∷ ns → hasRoom (m .pageCounts) (t .ledger) x ≡ true
+        → first (keep room (map (try (lastIs x)) (nodes x))) ≡ some s → s .node ≡ x
     at-head x ns n r e =
-        let z : some (try (suc x) x) ≡ some s = rw (n, r) at e in
-        let y : try (suc x) x ≡ s = cc in
+        let z : some (try (lastIs x) x) ≡ some s = rw (n, r) at e in
+        let y : try (lastIs x) x ≡ s = cc in
         ap (λ (u : Try). u .node) (sym y)
 
-    open-serves : (x : ℕ) → first (keep room (map (try (suc x)) (near m limit x))) ≡ some s → isOpen m t j x ≡ true → s .node ≡ x
+    open-serves : (x : ℕ) → first (keep room (map (try (lastIs x)) (nodes x))) ≡ some s → isOpen m t j x ≡ true → s .node ≡ x
     open-serves x e o =
-        let a = both-true {a = ltb x (nodeCount m) && has limit x} {b = hasRoom m (t .ledger) x} o in
+        let a = both-true {a = ltb x (nodeCount m) && has limit x} {b = hasRoom (m .pageCounts) (t .ledger) x} o in
         let l = both-true {a = ltb x (nodeCount m)} {b = has limit x} (a .0) .1 in
-        at-head x (near-order m limit x .rest) (near-order m limit x .x-first l) (a .1) e
+        let n = near-order (nodeCount m) (m .distances) limit x in
+        at-head x (n .rest) (n .x-first l) (a .1) e
 
-    go : (o : Option ℕ) → target (jobIn t j) ≡ o → first (keep room (interleaved m limit o)) ≡ some s → InterleaveGrant m t j s
+    go : (o : Option ℕ) → target (recordIn t j .effective) (recordIn t j .turn .cursor) ≡ o
+        → first (keep room (order (nodeCount m) (m .distances) limit (interleaved limit o))) ≡ some s → InterleaveGrant m t j s
     go none q e = absurd (let z : _≡_ {A = ℕ} 0 1 = cc in omega arith)
     go (some x) q e =
-        record { goal = x; by-turn = q; moves = chosen-cursor room (suc x) (near m limit x) s e; serves = open-serves x e }
+        record { goal = x; by-turn = q; moves = chosen-turn room (lastIs x) (nodes x) s e; serves = open-serves x e }

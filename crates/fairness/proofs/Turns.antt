@@ -4,7 +4,8 @@ use Prim.Native.Nat.{ℕ, zero, suc, _+_, _-_, _*_, _%_, _≤_, _<_}
 use mathlib.Core.Path.{_≡_, refl, sym, ap, _∙_}
 use mathlib.Core.Bool.{Bool, cond}
 use mathlib.Core.List.{List, [], _∷_}
-use native.Mathlib.Nat.{add-zero, add-suc, zero-add, suc-add, add-mod-right, mod-add-mod, suc-mod, add-sub-of-le, zero-mul, suc-mul, add-assoc, mod-eq-of-lt}
+use native.Mathlib.Nat.{add-zero, add-suc, zero-add, suc-add, add-mod-right, mod-add-mod, suc-mod, add-sub-of-le, zero-mul, suc-mul, add-assoc}
+use native.Mathlib.Nat.{mod-eq-of-lt}
 use native.Mathlib.Omega.{arith}
 use native.Mathlib.Decide.{decLe, decLt}
 use borrow.Author.Tests.{eq-eqb, ne-eqb}

@@ -10,14 +10,14 @@ use lib.Dec.{eqb, ltb}
 use Rattle.rules.specs.Basics.{keep, first, around, count, Each}
 use Rattle.rules.specs.Machine.{Machine, nodeCount, nodeOfPage}
 use Rattle.rules.specs.Masks.{maskBits, has, size}
-use Rattle.rules.specs.Records.{Job, jobAt}
+use Rattle.rules.specs.Records.{Record, recordAt}
 use Rattle.rules.specs.SearchOrder.{nodeAt, hasRoom}
 use Rattle.rules.specs.Calls.{Answer, granted, released, done, refused, Tables, limitOf}
 use Rattle.rules.specs.Book.{Call, request, release, install, rebind, clear, step}
 
 -- the record of job j in some tables
-abbrev pub jobIn : Tables → ℕ → Job
-jobIn t j = jobAt (t .records) j
+abbrev pub recordIn : Tables → ℕ → Record
+recordIn t j = recordAt (t .records) j
 
 -- A granted request: the tables before it, and the page that it got.
 pub record Grant : Type 0 where
@@ -34,7 +34,7 @@ grantBy t (refused r) = []
 unfoldable pub grantIn : Machine → ℕ → Tables → Call → List Grant
 grantIn m j t (request i k) = cond (eqb i j) (grantBy t (step m t (request i k) .answer)) []
 grantIn m j t (release i p) = []
-grantIn m j t (install i mode flag user places) = []
+grantIn m j t (install i p) = []
 grantIn m j t (rebind i allowed) = []
 grantIn m j t (clear i) = []
 
@@ -48,7 +48,7 @@ grants m j t (c ∷ cs) = grantIn m j t c ++ grants m j (step m t c .tables) cs
 unfoldable pub setsPolicy : ℕ → Call → Bool
 setsPolicy j (request i k) = false
 setsPolicy j (release i p) = false
-setsPolicy j (install i mode flag user places) = eqb i j
+setsPolicy j (install i p) = eqb i j
 setsPolicy j (rebind i allowed) = eqb i j
 setsPolicy j (clear i) = false
 
@@ -64,16 +64,16 @@ PolicyKept m j t (c ∷ cs) = (setsPolicy j c ≡ true → isRefused (step m t c
 
 -- "allowed and has a free page": node n, for job j; "a byte of N or more is not allowed"
 unfoldable pub isOpen : Machine → Tables → ℕ → ℕ → Bool
-isOpen m t j n = ltb n (nodeCount m) && has (limitOf t j) n && hasRoom m (t .ledger) n
+isOpen m t j n = ltb n (nodeCount m) && has (limitOf t j) n && hasRoom (m .pageCounts) (t .ledger) n
 
 -- "A place goes by the node it names"
 unfoldable pub placeOpen : Machine → Tables → ℕ → ℕ → Bool
-placeOpen m t j p = isOpen m t j (nodeAt (jobIn t j) p)
+placeOpen m t j p = isOpen m t j (nodeAt (recordIn t j) p)
 
 -- "Ring: the place granted is the first that is allowed and has a free page", from one past the last, once round
 unfoldable pub placeGranted : Machine → ℕ → Grant → Option ℕ
 placeGranted m j g =
-    first (keep (placeOpen m (g .before) j) (around (jobIn (g .before) j .len) (jobIn (g .before) j .cursor) (jobIn (g .before) j .len)))
+    first (keep (placeOpen m (g .before) j) (around (recordIn (g .before) j .len) (recordIn (g .before) j .turn .cursor) (recordIn (g .before) j .len)))
 
 -- "Interleave: the node granted is the page's"
 unfoldable pub nodeGranted : Machine → Grant → ℕ
@@ -109,13 +109,13 @@ pub record FairNodes (m : Machine) (j e k : ℕ) (gs : List Grant) : Type 0 wher
 
 -- "Take every list of these calls .. It starts from any page table and job table": the one claim, for every job
 pub record Fair (m : Machine) (t : Tables) (cs : List Call) (j : ℕ) : Type 0 where
-  pub ring : jobIn t j .mode ≡ 5 → (k s : ℕ) → let L : ℕ = jobIn t j .len in
+  pub ring : recordIn t j .mode ≡ 5 → (k s : ℕ) → let L : ℕ = recordIn t j .len in
       length (row m j t cs s (k * L)) ≡ k * L → FairPlaces m j L k (row m j t cs s (k * L))
-  pub interleave : jobIn t j .mode ≡ 3 → (k s : ℕ) → let L : ℕ = size maskBits (jobIn t j .effective) in
-      length (row m j t cs s (k * L)) ≡ k * L → FairNodes m j (jobIn t j .effective) k (row m j t cs s (k * L))
+  pub interleave : recordIn t j .mode ≡ 3 → (k s : ℕ) → let L : ℕ = size maskBits (recordIn t j .effective) in
+      length (row m j t cs s (k * L)) ≡ k * L → FairNodes m j (recordIn t j .effective) k (row m j t cs s (k * L))
   -- "The page answered in ring mode lies in the node of the place granted"
-  pub ring-page : jobIn t j .mode ≡ 5
-      → Each (λ g. (p : ℕ) × (placeGranted m j g ≡ some p) × (nodeGranted m g ≡ nodeAt (jobIn (g .before) j) p)) (grants m j t cs)
+  pub ring-page : recordIn t j .mode ≡ 5
+      → Each (λ g. (p : ℕ) × (placeGranted m j g ≡ some p) × (nodeGranted m g ≡ nodeAt (recordIn (g .before) j) p)) (grants m j t cs)
 
 abbrev pub Demand3 : Machine → Tables → List Call → Type 0
 Demand3 m t cs = (j : ℕ) → PolicyKept m j t cs → Fair m t cs j

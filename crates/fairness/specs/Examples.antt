@@ -11,9 +11,10 @@ use Rattle.rules.specs.Masks.{openMasks}
 use Rattle.rules.specs.Records.{openRecords, wordsPerJob}
 use Rattle.rules.specs.SearchOrder.{openSearchOrder}
 use Rattle.rules.specs.Calls.{openCalls, Tables, numbers}
-use Rattle.rules.specs.Book.{openBook, Call, request, release, install, rebind, clear, step, answers, final}
-use Rattle.rules.specs.Examples.{machineA}
-use Rattle.fairness.specs.Demand3.{Grant, grantBy, grantIn, grants, setsPolicy, isRefused, PolicyKept, isOpen, placeOpen, placeGranted, nodeGranted, row}
+use Rattle.rules.specs.Book.{openBook, Call, request, release, rebind, clear, step, answers, final}
+use Rattle.rules.specs.Examples.{machineA, installs}
+use Rattle.fairness.specs.Demand3.{Grant, grantBy, grantIn, grants, setsPolicy, isRefused, PolicyKept, isOpen, placeOpen, placeGranted}
+use Rattle.fairness.specs.Demand3.{nodeGranted, row}
 use Rattle.fairness.specs.Demand3.{timesPlace, timesNode}
 
 -- for a proof that computes: `unfolding openDemand3` opens every definition of demand 3, `unfolding openAll` those of the rules too
@@ -31,11 +32,11 @@ made cs = final machineA (record { ledger = replicate 6 0; records = replicate (
 
 -- job 0 on nodes 0, 1 and 3 in this mode, job 1 default
 abbrev pub start : ℕ → ℕ → List ℕ → Tables
-start mode user places = made (rebind 0 15 ∷ install 0 mode 0 user places ∷ rebind 1 15 ∷ [])
+start mode user places = made (rebind 0 15 ∷ installs 0 mode 0 user places ∷ rebind 1 15 ∷ [])
 
 -- a request of job 0, then a refused one, an install refused, and job 1 taking a page and giving it back
 abbrev pub turn : ℕ → List Call
-turn p = request 0 0 ∷ request 0 9 ∷ install 0 7 0 0 [] ∷ request 1 6 ∷ release 1 p ∷ []
+turn p = request 0 0 ∷ request 0 9 ∷ installs 0 7 0 0 [] ∷ request 1 6 ∷ release 1 p ∷ []
 
 -- how often each of three places, or nodes 0, 1 and 3, was granted in the row
 abbrev pub places : List Grant → List ℕ
@@ -70,7 +71,7 @@ all-right = tt
 abbrev pub cleared : List Call
 cleared =
     request 0 0 ∷ request 0 0 ∷ request 0 0 ∷ clear 0
-    ∷ request 0 0 ∷ request 1 6 ∷ install 0 5 0 0 (0 ∷ []) ∷ clear 0 ∷ request 0 0 ∷ []
+    ∷ request 0 0 ∷ request 1 6 ∷ installs 0 5 0 0 (0 ∷ []) ∷ clear 0 ∷ request 0 0 ∷ []
 
 -- the first three requests alone are granted, each place once; after the clear requests are refused 8, the install 7
 pub clear-ends-grants : T (
@@ -89,7 +90,7 @@ clear-may-come = (λ e. e, (λ e. e, (λ e. e, (λ e. e, (λ e. refl, (λ e. e, 
 
 -- job 0 interleaves over all that it is allowed, nodes 1 and 3
 abbrev pub pair : Tables
-pair = made (rebind 0 10 ∷ install 0 3 0 10 [] ∷ [])
+pair = made (rebind 0 10 ∷ installs 0 3 0 10 [] ∷ [])
 
 -- this call, then as many requests as there were effective nodes
 abbrev pub after : Call → List Call
@@ -110,6 +111,6 @@ abbrev pub spoils : Call → Bool
 spoils c = starves c && barred c
 
 -- a rebind to nodes 0, 1 and 3 makes nodes 0 and 1 the effective ones; an install of node 1 alone leaves node 3 out likewise
-pub premise-needed : T (spoils (rebind 0 11) && spoils (install 0 3 0 2 []))
+pub premise-needed : T (spoils (rebind 0 11) && spoils (installs 0 3 0 2 []))
 unfolding openAll
 premise-needed = tt

@@ -1,153 +1,165 @@
--- What the journal's run does to the tables and answers is the book's run of its calls.
+-- What a journal's run does to the tables and answers is the book's run of its calls.
 -- Assumes nothing.
-use Prim.Native.Nat.{ℕ, zero, suc, _+_, _*_, _≤_}
-use mathlib.Core.Path.{_≡_, refl, sym, ap, ap₂, _∙_}
+use Prim.Native.Nat.{ℕ, zero, suc, _+_, _*_, _/_, _≤_, _<_}
+use mathlib.Core.Path.{_≡_, refl, sym, ap, _∙_}
 use mathlib.Core.Bool.{Bool, true, false, cond}
 use mathlib.Core.List.{List, [], _∷_, _++_, map, append-assoc}
 use native.Mathlib.Omega.{arith}
-use lib.ListN.{length, take, drop, length-take, length-drop, take-append-drop}
+use borrow.Author.Tests.{ltb-true, lt-ltb, le-ltb}
+use lib.Dec.{ltb}
+use lib.ListN.{length, take, drop, length-append, length-drop, drop-of-length-le}
 use lib.Seq.{drop-drop}
-use Rattle.rules.specs.Basics.{Each, each, isEmpty}
+use Rattle.rules.specs.Basics.{sum}
 use Rattle.rules.specs.Machine.{Machine}
-use Rattle.rules.specs.Calls.{Tables, accept, numbers}
-use Rattle.rules.specs.Book.{Call, step, answers, final}
-use Rattle.rules.specs.Journal.{byteAt, answerBytes, kindOf, recordSize, recordOk, callIn, machineIn, startOf, runFrom, journal}
-use Rattle.rules.proofs.Lists.{fails}
-use Rattle.journal.specs.Enums.{verdict}
-use Rattle.journal.specs.Runs.{outcomeOf, answerTo, Left, leftFrom, Runs}
-use Rattle.journal.specs.BookRun.{recordsFrom, recordsIn, past, pastRecords, callOfRecord, callsIn, answerLines, ending, bookRun}
-use Rattle.journal.proofs.CallRecord.{undamaged, byte-alone, tested-alone, read-alone}
-use Rattle.journal.proofs.Answers.{run-end, record-next, damaged-ends, left-end, left-next, left-damaged, journal-opened}
+use Rattle.rules.specs.Decisions.{Decision, refuse, accept, decided}
+use Rattle.rules.specs.Calls.{Tables, numbers}
+use Rattle.rules.specs.Book.{step, answers, final}
+use Rattle.rules.specs.Journal.{Entry, faulty, readRecord, machineIn, startOf, opening, runFrom, journal}
+use Rattle.rules.proofs.Lists.{same-test}
+use Rattle.journal.specs.Parts.{answerSize, runOf, isWhole, ran, answerTo, oneRecord, after, partFrom, putInto, onPart}
+use Rattle.journal.specs.BookRun.{recordsFrom, recordsIn, past, answerLines, bookLines, ending, bookRun, meetsDamage, bookPart}
+use Rattle.journal.proofs.Records.{short-left, short-damaged, good-record, damage}
+use Rattle.journal.proofs.Answers.{answer-length, fault-length, enough, run-next, run-damaged}
+use Rattle.journal.proofs.Parts.{done, part-waits}
 
--- ---- the records, one by one
+-- ---- the records
 
--- what holds where no good record stands, and with one good record more, holds of the good records that the bytes start with
-by-records : (P : List ℕ → List (List ℕ) → Type 0)
-    → ((bs : List ℕ) → recordOk bs ≡ false → P bs [])
-    → ((bs : List ℕ) (rs : List (List ℕ)) → recordOk bs ≡ true → P (drop recordSize bs) rs → P bs (take recordSize bs ∷ rs))
-    → (f : ℕ) (bs : List ℕ) → length bs ≤ f → P bs (recordsFrom f bs)
+-- es are the good records that the bytes start with, one after the other; after them no good record stands
+pub data Records : List ℕ → List Entry → Type 0 where
+  none : {bs : List ℕ} {r : ℕ} → readRecord bs ≡ refuse r → Records bs []
+  more : {bs : List ℕ} {e : Entry} {es : List Entry} → readRecord bs ≡ accept e → Records (drop (e .size) bs) es → Records bs (e ∷ es)
+
+records-from : (f : ℕ) (bs : List ℕ) → length bs ≤ f → Records bs (recordsFrom f bs)
 unfolding recordsFrom
-by-records P last next zero bs h = last bs (fails (λ e. omega (arith, undamaged bs e .0)))
-by-records P last next (suc f) bs h = go (recordOk bs) refl (by-records P last next f rest (omega (arith, length-drop recordSize bs)))
+records-from zero bs h = none (short-damaged bs (sym (short-left bs (omega arith))))
+records-from (suc f) bs h = go (readRecord bs) refl (λ e. records-from f (drop (e .size) bs))
   where
-    rest : List ℕ
-    rest = drop recordSize bs
-
-    go : (ok : Bool) → recordOk bs ≡ ok → P rest (recordsFrom f rest) → P bs (cond ok (take recordSize bs ∷ recordsFrom f rest) [])
-    go true e ih = next bs (recordsFrom f rest) e ih
-    go false e ih = last bs e
-
--- one record is past: the bytes past the others stay the same
-past-next : (bs r : List ℕ) (rs : List (List ℕ)) → past (drop recordSize bs) rs ≡ past bs (r ∷ rs)
-past-next bs r rs =
-    let e : recordSize + recordSize * length rs ≡ recordSize * suc (length rs) = omega arith in
-    drop-drop (recordSize * length rs) recordSize bs ∙ ap (λ (n : ℕ). drop n bs) e
-
--- a record's call is in its own 32 bytes
-call-alone : (bs : List ℕ) → callOfRecord bs ≡ callOfRecord (take recordSize bs)
-call-alone bs =
-    sym (read-alone (kindOf (byteAt bs 2)) bs) ∙ ap (λ (k : ℕ). callIn (kindOf k) (take recordSize bs)) (sym (byte-alone bs 2 (omega arith)))
-
--- ---- what the records are
-
--- rs are whole good records that the bytes start with, and after them no good record stands
-pub record Records (bs : List ℕ) (rs : List (List ℕ)) : Type 0 where
-  pub split : each (λ r. r) rs ++ past bs rs ≡ bs
-  pub good : Each (λ r. (length r ≡ recordSize) × (recordOk r ≡ true)) rs
-  pub ends : recordOk (past bs rs) ≡ false
+    go : (d : Decision Entry) → readRecord bs ≡ d
+        → ((e : Entry) → length (drop (e .size) bs) ≤ f → Records (drop (e .size) bs) (recordsFrom f (drop (e .size) bs)))
+        → Records bs (decided (λ r. []) (λ e. e ∷ recordsFrom f (drop (e .size) bs)) d)
+    go (refuse r) q ih = none q
+    go (accept e) q ih = more q (ih e (omega (arith, length-drop (e .size) bs, good-record bs q .least)))
 
 -- "Then 32-byte records .. A bad mark, kind, unused byte or short record .. ends"
 pub records-are : (bs : List ℕ) → Records bs (recordsIn bs)
-unfolding each Each
-records-are bs = by-records Records last next (length bs) bs (omega arith)
-  where
-    last : (bs : List ℕ) → recordOk bs ≡ false → Records bs []
-    last bs e = record { split = refl; good = tt; ends = e }
-
-    next : (bs : List ℕ) (rs : List (List ℕ)) → recordOk bs ≡ true → Records (drop recordSize bs) rs → Records bs (take recordSize bs ∷ rs)
-    next bs rs e ih =
-        let r = take recordSize bs in
-        let p = sym (past-next bs r rs) in
-        record {
-          split =
-              append-assoc r (each (λ r. r) rs) (past bs (r ∷ rs))
-              ∙ ap (λ (xs : List ℕ). r ++ xs) (ap (λ (xs : List ℕ). each (λ r. r) rs ++ xs) p ∙ ih .split) ∙ take-append-drop recordSize bs;
-          good = ((omega (arith, length-take recordSize bs, undamaged bs e .0), tested-alone bs ∙ e), ih .good);
-          ends = ap recordOk p ∙ ih .ends;
-        }
+records-are bs = records-from (length bs) bs (omega arith)
 
 -- ---- the run
 
--- these tables are left, and the run goes on if no damaged bytes are
-abbrev leftAs : Tables → List ℕ → Left
-leftAs t bs = record { tables = t; more = isEmpty bs }
+at-end : (m : Machine) (t : Tables) (bs : List ℕ) {r : ℕ} → readRecord bs ≡ refuse r → runOf m t bs ≡ ending bs
+unfolding runFrom
+at-end m t [] q = refl
+at-end m t (b ∷ bs) q = run-damaged m t (b ∷ bs) (omega arith) q ∙ ap faulty (damage (b ∷ bs) q)
 
--- The run of the bytes is the book's run of the calls in rs: the answers, the tables, and whether the run goes on
-record ByBook (m : Machine) (t : Tables) (bs : List ℕ) (rs : List (List ℕ)) : Type 0 where
-  bytes : runFrom (length bs) m t bs ≡ answerLines rs (answers m t (map callOfRecord rs)) ++ ending (past bs rs)
-  left : leftFrom (length bs) m t bs ≡ leftAs (final m t (map callOfRecord rs)) (past bs rs)
-
-by-book : (m : Machine) (bs : List ℕ) (t : Tables) → ByBook m t bs (recordsIn bs)
-unfolding answers final answerLines isEmpty
-by-book m bs = by-records (λ bs rs. (t : Tables) → ByBook m t bs rs) last next (length bs) bs (omega arith)
-  where
-    last : (bs : List ℕ) → recordOk bs ≡ false → (t : Tables) → ByBook m t bs []
-    last [] e t = record { bytes = run-end m 0 t; left = left-end m 0 t }
-    last (b ∷ bs) e t = record { bytes = damaged-ends m t (b ∷ bs) (omega arith) e; left = left-damaged m t (b ∷ bs) (omega arith) e }
-
-    next : (bs : List ℕ) (rs : List (List ℕ)) → recordOk bs ≡ true → ((t : Tables) → ByBook m t (drop recordSize bs) rs)
-        → (t : Tables) → ByBook m t bs (take recordSize bs ∷ rs)
-    next bs rs e ih t =
-        let r = take recordSize bs in
-        let cs = map callOfRecord rs in
-        let p = past-next bs r rs in
-        let given = answerTo m t bs in
-        let after = outcomeOf m t bs .tables in
-        let later : Tables → List ℕ = λ t. answerLines rs (answers m t cs) in
-        let end = ending (past bs (r ∷ rs)) in
-        record {
-          bytes =
-              record-next m t bs e ∙ ap (λ (xs : List ℕ). given ++ xs) (ih after .bytes ∙ ap (λ (xs : List ℕ). later after ++ ending xs) p)
-              ∙ sym (append-assoc given (later after) end)
-              ∙ ap₂ (λ (k : ℕ) (c : Call). (answerBytes k (numbers (step m t c .answer)) ++ later (step m t c .tables)) ++ end)
-              (sym (byte-alone bs 2 (omega arith)))
-              (call-alone bs);
-          left =
-              left-next m t bs e ∙ ih after .left
-              ∙ ap₂ (λ (c : Call) (xs : List ℕ). leftAs (final m (step m t c .tables) cs) xs) (call-alone bs) p;
-        }
+by-book : (m : Machine) {bs : List ℕ} {es : List Entry} → Records bs es → (t : Tables) → runOf m t bs ≡ bookLines m t es ++ ending (past bs es)
+unfolding answerLines answers sum
+by-book m {bs} (none q) t = at-end m t bs q
+by-book m {bs} (more {e = e} {es = es} q rs) t =
+    let later = bookLines m (step m t (e .call) .tables) es in
+    run-next m t bs q ∙ ap (λ (xs : List ℕ). answerTo m t e ++ xs) (by-book m rs (step m t (e .call) .tables))
+    ∙ rw (drop-drop (sum (map (λ e. e .size) es)) (e .size) bs) (sym (append-assoc (answerTo m t e) later (ending (past bs (e ∷ es)))))
 
 -- "Each call's answer or refusal number equals the book's": the bytes that the run writes are the book's answers to the calls of its records
-pub run-is-book : (m : Machine) (t : Tables) (bs : List ℕ) → runFrom (length bs) m t bs ≡ bookRun m t bs
-run-is-book m t bs = by-book m bs t .bytes
+pub run-is-book : (m : Machine) (t : Tables) (bs : List ℕ) → runOf m t bs ≡ bookRun m t bs
+run-is-book m t bs = by-book m (records-are bs) t
 
--- "at the end the whole page table, job table .. equal the book's": the tables that the run leaves
-pub left-is-book : (m : Machine) (t : Tables) (bs : List ℕ)
-    → leftFrom (length bs) m t bs ≡ record { tables = final m t (callsIn bs); more = isEmpty (pastRecords bs) }
-left-is-book m t bs = by-book m bs t .left
+-- ---- how much it writes
 
--- the whole journal: after a good machine record, the book's run on "64 fresh jobs"
-pub journal-is-book : (bs : List ℕ) {k : ℕ} → verdict bs ≡ accept k → journal bs ≡ bookRun (machineIn bs) (startOf (machineIn bs)) (drop k bs)
-journal-is-book bs {k} v = journal-opened bs v ∙ run-is-book (machineIn bs) (startOf (machineIn bs)) (drop k bs)
+lines-length : (m : Machine) (t : Tables) (es : List Entry) → length (bookLines m t es) ≡ answerSize * length es
+unfolding answerLines answers
+lines-length m t [] = refl
+lines-length m t (e ∷ es) =
+    let t′ = step m t (e .call) .tables in
+    rw length-append (omega (arith, answer-length (e .kind) (numbers (step m t (e .call) .answer)), lines-length m t′ es))
 
--- ---- the code
+-- the records' form alone decides it: not the tables
+same-size : (m : Machine) (t u : Tables) (bs : List ℕ) → length (runOf m t bs) ≡ length (runOf m u bs)
+same-size m t u bs = rw (run-is-book, run-is-book, length-append, length-append, lines-length, lines-length)
 
--- A run of the code is the book's run of the calls: what it writes, and the tables afterwards.
-pub record RunsByBook (m : Machine) (t : Tables) (bs out : List ℕ) (written : ℕ) (more : Bool) (after : Tables) (out′ : List ℕ) : Type 0 where
-  pub output : out′ ≡ bookRun m t bs ++ drop written out
-  pub size : written ≡ length (bookRun m t bs)
-  pub tables : after ≡ final m t (callsIn bs)
-  pub goesOn : more ≡ isEmpty (pastRecords bs)
+next-size : (m : Machine) (t : Tables) (bs : List ℕ) {e : Entry} → readRecord bs ≡ accept e
+    → length (runOf m t bs) ≡ answerSize + length (runOf m t (drop (e .size) bs))
+next-size m t bs {e} q =
+    let t′ = step m t (e .call) .tables in
+    rw (run-next m t bs q, length-append, answer-length (e .kind) (numbers (step m t (e .call) .answer)))
+    (ap (λ (k : ℕ). answerSize + k) (same-size m t′ t (drop (e .size) bs)))
 
--- so is every run that the contract of `run_calls` allows
-pub runs-by-book : (m : Machine) (t : Tables) (bs out : List ℕ) {written : ℕ} {more : Bool} {after : Tables} {out′ : List ℕ}
-    → Runs m t bs out written more after out′ → RunsByBook m t bs out written more after out′
-runs-by-book m t bs out {written} r =
-    let b = run-is-book m t bs in
-    let l = sym (r .left) ∙ left-is-book m t bs in
-    record {
-      output = r .output ∙ ap (λ (xs : List ℕ). xs ++ drop written out) b;
-      size = r .size ∙ ap length b;
-      tables = ap (λ (x : Left). x .tables) l;
-      goesOn = ap (λ (x : Left). x .more) l;
-    }
+-- The answers to the records before byte `at` take so many bytes.
+pub record Counted (input : List ℕ) (size at : ℕ) : Type 0 where
+  pub within : at ≤ length input
+  pub small : size + size ≤ at
+  pub rest : (m : Machine) (t : Tables) → size + length (runOf m t (drop at input)) ≡ length (runOf m t input)
+
+pub counted-none : (input : List ℕ) → Counted input 0 0
+counted-none input = record { within = omega arith; small = omega arith; rest = λ m t. omega arith }
+
+module _ {input : List ℕ} {size at : ℕ} (done : Counted input size at) where
+  -- an answer for each good record
+  pub counted-next : {e : Entry} → readRecord (drop at input) ≡ accept e → Counted input (size + answerSize) (at + e .size)
+  counted-next {e} q = let g = good-record (drop at input) q in record {
+    within = omega (arith, g .within, length-drop at input, done .within);
+    small = omega (arith, g .least, done .small);
+    rest = λ m t. rw (sym (drop-drop (e .size) at input)) (omega (arith, next-size m t (drop at input) q, done .rest m t));
+  }
+
+  -- and one for a damaged or short one
+  pub counted-last : {r : ℕ} → at < length input → readRecord (drop at input) ≡ refuse r → (m : Machine) (t : Tables)
+      → size + answerSize ≡ length (runOf m t input)
+  counted-last {r} l q m t =
+      let some : 0 < length (drop at input) = rw length-drop (omega arith) in
+      omega (arith, done .rest m t, ap length (run-damaged m t (drop at input) some q), fault-length r)
+
+  -- all are counted
+  pub counted-all : length input ≤ at → (m : Machine) (t : Tables) → size ≡ length (runOf m t input)
+  unfolding runFrom
+  counted-all l m t = omega (arith, rw (drop-of-length-le input l) at (done .rest m t))
+
+-- ---- a part
+
+-- one more of both
+more-room : (n room : ℕ) → ltb (suc n) (suc room) ≡ ltb n room
+more-room n room =
+    same-test (λ h. lt-ltb n room (omega (arith, ltb-true (suc n) (suc room) h))) (λ h. lt-ltb (suc n) (suc room) (omega (arith, ltb-true n room h)))
+
+part-by-book : (m : Machine) {bs : List ℕ} {es : List Entry} → Records bs es → (room : ℕ) (t : Tables) → partFrom room m t bs ≡ bookPart room m t bs es
+unfolding partFrom oneRecord answerLines answers final sum
+part-by-book m {bs} (none q) zero t = refl
+part-by-book m {bs} (none q) (suc room) t = go (isWhole bs) refl
+  where
+    go : (w : Bool) → isWhole bs ≡ w → partFrom (suc room) m t bs ≡ bookPart (suc room) m t bs []
+    go false w = part-waits (suc room) m t bs w ∙ rw (lt-ltb 0 (suc room) (omega arith), w)
+    go true w = rw (w, q, lt-ltb 0 (suc room) (omega arith), damage bs q)
+part-by-book m {bs} (more {es = es} q rs) zero t = rw (le-ltb (suc (length es)) 0 (omega arith))
+part-by-book m {bs} (more {e = e} {es = es} q rs) (suc room) t =
+    let t′ = step m t (e .call) .tables in
+    let rest = bookPart room m t′ (drop (e .size) bs) es in
+    rw (good-record bs q .whole, q) (ap (after (done m t e)) (part-by-book m rs room t′)
+    ∙ rw (more-room (length es) room, sym (drop-drop (sum (map (λ e. e .size) es)) (e .size) bs))
+    (ap (λ (xs : List ℕ). ran (e .size + rest .read) xs (rest .more) (rest .tables))
+    (sym (append-assoc (answerTo m t e) (bookLines m t′ (take room es)) (cond (meetsDamage room (drop (e .size) bs) es) (faulty 13) [])))))
+
+-- "at the end the whole page table, job table .. equal the book's": what a part does is the book's part, the tables that it leaves with it
+pub left-is-book : (room : ℕ) (m : Machine) (t : Tables) (bs : List ℕ) → partFrom room m t bs ≡ bookPart room m t bs (recordsIn bs)
+left-is-book room m t bs = part-by-book m (records-are bs) room t
+
+-- so is every part that the contract of `run_part` allows
+pub runs-by-book : (m : Machine) (t : Tables) (input out : List ℕ)
+    → onPart m t input out ≡ putInto out (bookPart (length out / answerSize) m t input (recordsIn input))
+unfolding onPart
+runs-by-book m t input out = ap (putInto out) (left-is-book (length out / answerSize) m t input)
+
+-- ---- the whole journal
+
+-- a machine record that is refused
+pub journal-refused : (bs : List ℕ) {r : ℕ} → opening bs ≡ refuse r → journal bs ≡ faulty r
+unfolding journal
+journal-refused bs h = rw h
+
+-- "A good machine record has no answer": the run of the records after it, on "64 fresh jobs"
+pub journal-opened : (bs : List ℕ) {k : ℕ} → opening bs ≡ accept k → journal bs ≡ runOf (machineIn bs) (startOf (machineIn bs)) (drop k bs)
+unfolding journal
+journal-opened bs {k} h =
+    rw h (enough (machineIn bs) (length bs) (length (drop k bs)) (startOf (machineIn bs)) (drop k bs) (rw length-drop (omega arith)) (omega arith))
+
+-- after a good machine record, the book's run on "64 fresh jobs"
+pub journal-is-book : (bs : List ℕ) {k : ℕ} → opening bs ≡ accept k → journal bs ≡ bookRun (machineIn bs) (startOf (machineIn bs)) (drop k bs)
+journal-is-book bs {k} h = journal-opened bs h ∙ run-is-book (machineIn bs) (startOf (machineIn bs)) (drop k bs)

@@ -1,10 +1,10 @@
 pub mod Numbers
-pub mod CallRecord
-pub mod MachineRecord
-pub mod Steps
-pub mod Answers
+pub mod Unused
+pub mod Records
 pub mod Output
-pub mod WholeJournal
+pub mod Answers
 pub mod Parts
 pub mod BookRun
-pub mod Unused
+pub mod MachineRecord
+pub mod Whole
+pub mod Within

@@ -10,15 +10,15 @@ use native.Mathlib.Omega.{arith}
 use borrow.Author.Tests.{leb-true}
 use lib.Dec.{leb, eqb}
 use lib.ListN.{length, take, set}
-use lib.Seq.{take-suc-set, getD-take}
+use lib.Seq.{length-take-le, take-suc-set, getD-take}
 use Rattle.rules.specs.Basics.{from, sum, between}
-use Rattle.rules.specs.Machine.{Machine, machineOk, pageTableOk}
-use Rattle.rules.specs.Calls.{unless, accept}
-use Rattle.rules.specs.Journal.{byteAt, number, marked, headSize, headOk, countsOk, machineSize, machineIn, journalPages}
-use Rattle.machine.specs.Tables.{machineOf}
-use Rattle.journal.specs.Enums.{verdict, openingSize}
+use Rattle.rules.specs.Machine.{machineOk}
+use Rattle.rules.specs.Decisions.{unless, accept}
+use Rattle.rules.specs.Journal.{byteAt, number, marked, headSize, headOk, countsOk, machineSize, machineIn, journalPages, opening}
+use Rattle.journal.specs.Opening.{openingSize}
 use Rattle.journal.proofs.Numbers.{long-take, part-take, number-take}
 use Rattle.rules.proofs.Lists.{both-true}
+use Rattle.rules.proofs.Decisions.{passed}
 
 -- "the six head bytes": a head that is undamaged has them
 pub head-long : (bs : List ℕ) → headOk bs ≡ true → headSize ≤ length bs
@@ -60,16 +60,22 @@ counts-step bs counts i {v} h e t =
     rw (add-one i)
     (take-suc-set counts i v h ∙ ap₂ (λ (l : List ℕ) (x : ℕ). l ++ (x ∷ [])) t e ∙ sym (map-from-suc (countAt bs) 0 i ∙ rw (zero-add i)))
 
--- "the other rules": of the tables that are read out of the record
-pub machine-tested : (bs : List ℕ) {counts cpus distances : List ℕ}
-    → counts ≡ machineIn bs .pageCounts → cpus ≡ machineIn bs .cpuNodes → distances ≡ machineIn bs .distances
-    → (machineOk (machineOf counts cpus distances) && pageTableOk counts journalPages)
-    ≡ (machineOk (machineIn bs) && leb (sum (machineIn bs .pageCounts)) journalPages)
-unfolding pageTableOk
-machine-tested bs p q r = rw (p, q, r)
+-- The first N of sixteen counts are the machine's.
+pub record Cut (bs : List ℕ) (n : ℕ) (all : List ℕ) : Type 0 where
+  pub inside : n ≤ length all
+  pub long : n ≡ length (take n all)
+  pub few : length (take n all) ≤ 16
+  pub counts : take n all ≡ machineIn bs .pageCounts
+
+pub cut : (bs : List ℕ) {n : ℕ} (all : List ℕ) → countsOk bs ≡ true → n ≡ byteAt bs 3 → length all ≡ 16 → take (byteAt bs 3) all ≡ machineIn bs .pageCounts
+    → Cut bs n all
+cut bs {n} all h e l t =
+    let most : byteAt bs 3 ≤ 16 = nodes-most bs h in
+    let size : length (take n all) ≡ n = length-take-le n all (omega arith) in
+    record { inside = omega arith; long = sym size; few = omega arith; counts = rw e t }
 
 -- What a good machine record holds, k bytes of it.
-pub record Opened (bs : List ℕ) (k : ℕ) : Type 0 where
+pub record Good (bs : List ℕ) (k : ℕ) : Type 0 where
   pub size : k ≡ machineSize bs
   pub counted : countsOk bs ≡ true
   pub whole : machineSize bs ≤ length bs
@@ -77,28 +83,23 @@ pub record Opened (bs : List ℕ) (k : ℕ) : Type 0 where
   pub few-pages : sum (machineIn bs .pageCounts) ≤ journalPages
 
 -- a machine record that is accepted is good
-pub opened : (bs : List ℕ) {k : ℕ} → verdict bs ≡ accept k → Opened bs k
-unfolding verdict
-opened bs {k} h = go (headOk bs) (countsOk bs) (leb size (length bs)) (machineOk m && few) refl refl refl h
-  where
-    size : ℕ
-    size = machineSize bs
-
-    m : Machine
-    m = machineIn bs
-
-    few : Bool
-    few = leb (sum (m .pageCounts)) journalPages
-
-    go : (a b c d : Bool) → countsOk bs ≡ b → leb size (length bs) ≡ c → (machineOk m && few) ≡ d
-        → unless a 13 (unless b 1 (unless c 13 (unless d 1 (accept size)))) ≡ accept k → Opened bs k
-    go true true true true eb ec ed h =
-        let t = both-true {a = machineOk m} ed in
-        record { size = cc; counted = eb; whole = leb-true size (length bs) ec; in-order = t .0; few-pages = leb-true (sum (m .pageCounts)) journalPages (t .1) }
-    go true true true false eb ec ed h = absurd (let z : _≡_ {A = ℕ} 0 1 = cc in omega arith)
-    go true true false d eb ec ed h = absurd (let z : _≡_ {A = ℕ} 0 1 = cc in omega arith)
-    go true false c d eb ec ed h = absurd (let z : _≡_ {A = ℕ} 0 1 = cc in omega arith)
-    go false b c d eb ec ed h = absurd (let z : _≡_ {A = ℕ} 0 1 = cc in omega arith)
+pub good-opening : (bs : List ℕ) {k : ℕ} → opening bs ≡ accept k → Good bs k
+unfolding opening
+good-opening bs {k} h =
+    let few = leb (sum (machineIn bs .pageCounts)) journalPages in
+    let a = passed (headOk bs) 13 _ h in
+    let b = passed (countsOk bs) 1 _ (a .1) in
+    let c = passed (leb (machineSize bs) (length bs)) 13 _ (b .1) in
+    let d = passed (machineOk (machineIn bs) && few) 1 _ (c .1) in
+    let t = both-true {a = machineOk (machineIn bs)} (d .0) in
+    let same : k ≡ machineSize bs = cc in
+    record {
+      size = same;
+      counted = b .0;
+      whole = leb-true (machineSize bs) (length bs) (c .0);
+      in-order = t .0;
+      few-pages = leb-true (sum (machineIn bs .pageCounts)) journalPages (t .1);
+    }
 
 -- ---- a machine record goes by its own bytes
 
@@ -160,10 +161,10 @@ module _ (w : ℕ) (bs : List ℕ) (six : headSize ≤ w) (enough : countsOk bs 
         map-from-same (countAt (take w bs)) (countAt bs) 0 n (λ i l. number-take w (headSize + 2 * i) 2 bs (omega arith)),
       )
 
-  -- the verdict
-  pub verdict-alone : verdict (take w bs) ≡ verdict bs
-  unfolding verdict
-  verdict-alone = rw (head-alone w bs six, counts-alone w bs six, size-alone w bs six) (go (countsOk bs) refl)
+  -- the opening
+  pub opening-taken : opening (take w bs) ≡ opening bs
+  unfolding opening
+  opening-taken = rw (head-alone w bs six, counts-alone w bs six, size-alone w bs six) (go (countsOk bs) refl)
     where
       go : (ok : Bool) → countsOk bs ≡ ok
           → unless (headOk bs) 13 (unless ok 1 (unless (leb (machineSize bs) (length (take w bs))) 13
@@ -184,13 +185,13 @@ opening-between bs = go (countsOk bs) refl
     go true e = (omega arith, size-most bs e)
     go false e = (omega arith, omega arith)
 
--- the verdict on the bytes that the six head bytes ask for is that on the whole journal
-pub opening-alone : (bs : List ℕ) → verdict (take (openingSize (take headSize bs)) bs) ≡ verdict bs
+-- the opening on the bytes that the six head bytes ask for is that on the whole journal
+pub opening-alone : (bs : List ℕ) → opening (take (openingSize (take headSize bs)) bs) ≡ opening bs
 unfolding openingSize
 opening-alone bs =
     let at = openingSize bs in
     rw (counts-alone headSize bs (omega arith), size-alone headSize bs (omega arith))
-    (verdict-alone at bs (opening-between bs .0) (λ e. enough (countsOk bs) e))
+    (opening-taken at bs (opening-between bs .0) (λ e. enough (countsOk bs) e))
   where
     enough : (ok : Bool) → ok ≡ true → machineSize bs ≤ cond ok (machineSize bs) headSize
     enough true e = omega arith

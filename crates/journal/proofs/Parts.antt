@@ -1,68 +1,122 @@
--- A journal may be read in parts of whole records: the answers to each part, one after the other, are those of the whole.
+-- A run in parts: what a part is, and that parts one after the other are the run.
 -- Assumes nothing.
-use Prim.Native.Nat.{ℕ, zero, suc, _*_, _≤_}
-use mathlib.Core.Path.{_≡_, refl, sym, ap, ap₂, _∙_}
-use mathlib.Core.Bool.{Bool, true, false, cond}
-use mathlib.Core.List.{List, [], _∷_, _++_, append-assoc, append-nil}
+use Prim.Native.Nat.{ℕ, zero, suc, _+_, _*_, _≤_, _<_}
+use mathlib.Core.Path.{_≡_, refl, sym, ap, _∙_}
+use mathlib.Core.Bool.{Bool, true, false, cond, false≢true}
+use mathlib.Core.Logic.{_⊎_, inl, inr, ⊎-elim}
+use mathlib.Core.List.{List, [], _++_, append-assoc, append-nil}
 use native.Mathlib.Omega.{arith}
-use lib.ListN.{length, take, drop, length-append, length-drop}
-use lib.Seq.{take-append-le, drop-append-le}
+use lib.ListN.{length, drop, length-append, length-drop}
+use lib.Seq.{drop-drop, drop-append-le}
 use Rattle.rules.specs.Machine.{Machine}
-use Rattle.rules.specs.Calls.{Tables, Outcome, numbers}
+use Rattle.rules.specs.Decisions.{Decision, refuse, accept, decided}
+use Rattle.rules.specs.Calls.{Tables, numbers}
 use Rattle.rules.specs.Book.{step}
-use Rattle.rules.specs.Journal.{byteAt, answerBytes, faulty, kindOf, recordSize, recordOk, callIn, runFrom}
-use Rattle.journal.specs.Runs.{outcomeOf, answerTo, Left, leftFrom}
-use Rattle.journal.proofs.CallRecord.{byte-alone, tested-alone, read-alone}
-use Rattle.journal.proofs.Answers.{run-end, record-next, damaged-ends, left-end, left-next, left-damaged}
+use Rattle.rules.specs.Journal.{Entry, faulty, readRecord}
+use Rattle.journal.specs.Parts.{answerSize, runOf, isWhole, Ran, ran, answerTo, oneRecord, after, partFrom}
+use Rattle.journal.proofs.Records.{whole-long, read-before, good-record}
+use Rattle.journal.proofs.Answers.{answer-length, fault-length, run-next, run-damaged}
+
+-- a good record, done
+abbrev pub done : Machine → Tables → Entry → Ran
+done m t e = ran (e .size) (answerTo m t e) true (step m t (e .call) .tables)
+
+-- What holds of a part that stays where it is, having no room or no whole record, of one that meets a damaged record, and with one good
+-- record before it, holds of every part.
+pub by-parts : (m : Machine) (P : ℕ → Tables → List ℕ → Ran → Type 0)
+    → ((room : ℕ) (t : Tables) (bs : List ℕ) → (room ≡ 0) ⊎ (isWhole bs ≡ false) → P room t bs (ran 0 [] true t))
+    → ((room : ℕ) (t : Tables) (bs : List ℕ) (r : ℕ) → isWhole bs ≡ true → readRecord bs ≡ refuse r → P (suc room) t bs (ran 0 (faulty r) false t))
+    → ((room : ℕ) (t : Tables) (bs : List ℕ) (e : Entry) (p : Ran) → readRecord bs ≡ accept e
+    → P room (done m t e .tables) (drop (e .size) bs) p → P (suc room) t bs (after (done m t e) p))
+    → (room : ℕ) (t : Tables) (bs : List ℕ) → P room t bs (partFrom room m t bs)
+unfolding partFrom oneRecord
+by-parts m P stays ends goes zero t bs = stays zero t bs (inl refl)
+by-parts m P stays ends goes (suc room) t bs =
+    go (isWhole bs) refl (readRecord bs) refl (λ e. by-parts m P stays ends goes room (done m t e .tables) (drop (e .size) bs))
+  where
+    one : Decision Entry → Ran
+    one d = decided (λ r. ran 0 (faulty r) false t) (λ e. done m t e) d
+
+    go : (w : Bool) → isWhole bs ≡ w → (d : Decision Entry) → readRecord bs ≡ d
+        → ((e : Entry) → P room (done m t e .tables) (drop (e .size) bs) (partFrom room m (done m t e .tables) (drop (e .size) bs)))
+        → let p = one d in P (suc room) t bs (cond w (cond (p .more) (after p (partFrom room m (p .tables) (drop (p .read) bs))) p) (ran 0 [] true t))
+    go false w d q ih = stays (suc room) t bs (inr w)
+    go true w (refuse r) q ih = ends room t bs r w q
+    go true w (accept e) q ih = goes room t bs e _ q (ih e)
 
 -- the answers to the bytes that follow a part: none after a damaged record
-abbrev pub onward : Machine → Left → List ℕ → List ℕ
-onward m l bs = cond (l .more) (runFrom (length bs) m (l .tables) bs) []
+abbrev pub onward : Machine → Ran → List ℕ → List ℕ
+onward m p bs = cond (p .more) (runOf m (p .tables) bs) []
 
-module _ (m : Machine) (t : Tables) (a b : List ℕ) (whole : recordSize ≤ length a) where
-  first : take recordSize (a ++ b) ≡ take recordSize a
-  first = take-append-le recordSize a b whole
+-- What a part is: it reads no more than there is and writes no more than it has room for; where it stops before the end it has used up its
+-- room or has come to a record that is not yet whole; and its answers, with those to what it left and to any bytes that follow, are those
+-- of the run.
+pub record Stands (m : Machine) (room : ℕ) (t : Tables) (bs : List ℕ) (p : Ran) : Type 0 where
+  pub within : p .read ≤ length bs
+  pub few : length (p .answers) ≤ answerSize * room
+  pub stops : p .more ≡ true → (length (p .answers) ≡ answerSize * room) ⊎ (isWhole (drop (p .read) bs) ≡ false)
+  pub whole : (b : List ℕ) → runOf m t (bs ++ b) ≡ p .answers ++ onward m p (drop (p .read) bs ++ b)
 
-  -- a whole record is tested alike, whatever follows it
-  tested-before : recordOk (a ++ b) ≡ recordOk a
-  tested-before = sym (tested-alone (a ++ b)) ∙ ap recordOk first ∙ tested-alone a
-
-  kind-before : byteAt (a ++ b) 2 ≡ byteAt a 2
-  kind-before =
-      sym (byte-alone (a ++ b) 2 (omega arith)) ∙ ap (λ (bs : List ℕ). byteAt bs 2) first ∙ byte-alone a 2 (omega arith)
-
-  -- so its call does the same
-  outcome-before : outcomeOf m t (a ++ b) ≡ outcomeOf m t a
-  outcome-before =
-      rw kind-before
-      (ap (step m t) (sym (read-alone (kindOf (byteAt a 2)) (a ++ b)) ∙ ap (callIn (kindOf (byteAt a 2))) first ∙ read-alone (kindOf (byteAt a 2)) a))
-
-  -- and has the same answer
-  answer-before : answerTo m t (a ++ b) ≡ answerTo m t a
-  answer-before = ap₂ (λ (k : ℕ) (o : Outcome). answerBytes k (numbers (o .answer))) kind-before outcome-before
-
--- the answers to a part of whole records, and then those to the rest
-pub in-parts : (m : Machine) (f : ℕ) (t : Tables) (a b : List ℕ) → length a ≡ recordSize * f
-    → runFrom (length (a ++ b)) m t (a ++ b) ≡ runFrom (length a) m t a ++ onward m (leftFrom (length a) m t a) b
-in-parts m zero t [] b l = rw (run-end m 0 t, left-end m 0 t)
-in-parts m zero t (x ∷ a) b l = absurd (omega arith)
-in-parts m (suc f) t a b l = go (recordOk a) refl (in-parts m f (outcomeOf m t a .tables) (drop recordSize a) b (length-drop recordSize a ∙ omega arith))
+pub stands : (m : Machine) (room : ℕ) (t : Tables) (bs : List ℕ) → Stands m room t bs (partFrom room m t bs)
+stands m = by-parts m (Stands m) stays ends goes
   where
-    whole : recordSize ≤ length a
-    whole = omega arith
+    stays : (room : ℕ) (t : Tables) (bs : List ℕ) → (room ≡ 0) ⊎ (isWhole bs ≡ false) → Stands m room t bs (ran 0 [] true t)
+    stays room t bs h =
+        record { within = omega arith; few = omega arith; stops = λ e. ⊎-elim (λ (z : room ≡ 0). inl (omega arith)) inr h; whole = λ b. refl }
 
-    next : Tables
-    next = outcomeOf m t a .tables
+    ends : (room : ℕ) (t : Tables) (bs : List ℕ) (r : ℕ) → isWhole bs ≡ true → readRecord bs ≡ refuse r → Stands m (suc room) t bs (ran 0 (faulty r) false t)
+    ends room t bs r w q = record {
+      within = omega arith;
+      few = omega (arith, fault-length r);
+      stops = λ e. absurd (false≢true e);
+      whole = λ b.
+          let some : 0 < length (bs ++ b) = rw length-append (omega (arith, whole-long bs w)) in
+          run-damaged m t (bs ++ b) some (read-before bs b w ∙ q) ∙ sym (append-nil (faulty r));
+    }
 
-    rest : List ℕ
-    rest = drop recordSize a
+    goes : (room : ℕ) (t : Tables) (bs : List ℕ) (e : Entry) (p : Ran) → readRecord bs ≡ accept e
+        → Stands m room (done m t e .tables) (drop (e .size) bs) p → Stands m (suc room) t bs (after (done m t e) p)
+    goes room t bs e p q ih =
+        let g = good-record bs q in
+        let line = answerTo m t e in
+        let size = answer-length (e .kind) (numbers (step m t (e .call) .answer)) in
+        let past = drop-drop (p .read) (e .size) bs in
+        record {
+          within = omega (arith, ih .within, g .within, length-drop (e .size) bs);
+          few = rw length-append (omega (arith, size, ih .few));
+          stops = λ h.
+              ⊎-elim (λ (full : length (p .answers) ≡ answerSize * room). inl (rw length-append (omega (arith, size))))
+              (λ w. inr (sym (ap isWhole past) ∙ w))
+              (ih .stops h);
+          whole = λ b.
+              run-next m t (bs ++ b) (read-before bs b (g .whole) ∙ q)
+              ∙ rw (drop-append-le (e .size) bs b (g .within), ih .whole b, past)
+              (sym (append-assoc line (p .answers) (onward m p (drop (e .size + p .read) bs ++ b))));
+        }
 
-    go : (ok : Bool) → recordOk a ≡ ok
-        → runFrom (length (rest ++ b)) m next (rest ++ b) ≡ runFrom (length rest) m next rest ++ onward m (leftFrom (length rest) m next rest) b
-        → runFrom (length (a ++ b)) m t (a ++ b) ≡ runFrom (length a) m t a ++ onward m (leftFrom (length a) m t a) b
-    go true e ih =
-        record-next m t (a ++ b) (tested-before m t a b whole ∙ e)
-        ∙ rw (answer-before m t a b whole, outcome-before m t a b whole, drop-append-le recordSize a b whole, ih, record-next m t a e, left-next m t a e, append-assoc)
-    go false e ih =
-        damaged-ends m t (a ++ b) (rw length-append (omega arith)) (tested-before m t a b whole ∙ e)
-        ∙ rw (damaged-ends m t a (omega arith) e, left-damaged m t a (omega arith) e) (sym (append-nil (faulty 13)))
+-- The answers of a part, whatever room it had and wherever the bytes were cut, and then those to what it left with the bytes that follow,
+-- are those of the whole.
+pub in-parts : (m : Machine) (room : ℕ) (t : Tables) (a b : List ℕ) → let p = partFrom room m t a in
+    runOf m t (a ++ b) ≡ p .answers ++ onward m p (drop (p .read) a ++ b)
+in-parts m room t a b = stands m room t a .whole b
+
+-- ---- one record
+
+-- a part with no whole record does nothing
+pub part-waits : (room : ℕ) (m : Machine) (t : Tables) (bs : List ℕ) → isWhole bs ≡ false → partFrom room m t bs ≡ ran 0 [] true t
+unfolding partFrom
+part-waits zero m t bs w = refl
+part-waits (suc room) m t bs w = rw w
+
+-- a record lies in the bytes, and is no less than 32 bytes where it does not end the run; it has one answer
+pub one-size : (m : Machine) (t : Tables) (bs : List ℕ) → let p = oneRecord m t bs in
+    (p .read ≤ length bs) × (p .more ≡ true → 32 ≤ p .read) × (length (p .answers) ≡ answerSize)
+unfolding oneRecord
+one-size m t bs = go (readRecord bs) refl
+  where
+    go : (d : Decision Entry) → readRecord bs ≡ d → let p = decided (λ r. ran 0 (faulty r) false t) (λ e. done m t e) d in
+        (p .read ≤ length bs) × (p .more ≡ true → 32 ≤ p .read) × (length (p .answers) ≡ answerSize)
+    go (refuse r) q = (omega arith, λ h. absurd (false≢true h), fault-length r)
+    go (accept e) q =
+        let g = good-record bs q in
+        (g .within, λ h. g .least, answer-length (e .kind) (numbers (step m t (e .call) .answer)))

@@ -1,43 +1,43 @@
 -- The records of a journal as the book's list of calls (document 01, "The journal program" and "The lists of demand 3").
-use Prim.Native.Nat.{ℕ, zero, suc, _*_}
-use mathlib.Core.Bool.{cond}
+use Prim.Native.Nat.{ℕ, zero, suc}
+use mathlib.Core.Bool.{Bool, not, _&&_, cond}
 use mathlib.Core.List.{List, [], _∷_, _++_, map}
 use lib.ListN.{length, take, drop}
+use lib.Dec.{ltb}
+use Rattle.rules.specs.Basics.{sum}
 use Rattle.rules.specs.Machine.{Machine}
+use Rattle.rules.specs.Decisions.{decided}
 use Rattle.rules.specs.Calls.{Answer, Tables, numbers}
-use Rattle.rules.specs.Book.{Call, answers}
-use Rattle.rules.specs.Journal.{byteAt, answerBytes, faulty, kindOf, recordSize, recordOk, callIn}
+use Rattle.rules.specs.Book.{Call, answers, final}
+use Rattle.rules.specs.Journal.{Entry, answerBytes, faulty, readRecord}
+use Rattle.journal.specs.Parts.{isWhole, Ran, ran}
 
--- "Then 32-byte records": those up to the end of input or the first damaged one; the first argument bounds their number, as in `runFrom`
-unfoldable pub recordsFrom : ℕ → List ℕ → List (List ℕ)
+-- the records up to the end of input or the first damaged one; the first argument bounds their number, as in `runFrom`
+unfoldable pub recordsFrom : ℕ → List ℕ → List Entry
 recordsFrom zero bs = []
-recordsFrom (suc f) bs = let more = take recordSize bs ∷ recordsFrom f (drop recordSize bs) in cond (recordOk bs) more []
+recordsFrom (suc more) bs = decided (λ r. []) (λ e. e ∷ recordsFrom more (drop (e .size) bs)) (readRecord bs)
 
 -- the good records that the bytes start with
-abbrev pub recordsIn : List ℕ → List (List ℕ)
+abbrev pub recordsIn : List ℕ → List Entry
 recordsIn bs = recordsFrom (length bs) bs
 
 -- the bytes past some records
-abbrev pub past : List ℕ → List (List ℕ) → List ℕ
-past bs rs = drop (recordSize * length rs) bs
+abbrev pub past : List ℕ → List Entry → List ℕ
+past bs es = drop (sum (map (λ e. e .size) es)) bs
 
--- the bytes past the good records: none at the end of input, else a damaged record
-abbrev pub pastRecords : List ℕ → List ℕ
-pastRecords bs = past bs (recordsIn bs)
-
--- the call in a record
-abbrev pub callOfRecord : List ℕ → Call
-callOfRecord r = callIn (kindOf (byteAt r 2)) r
-
--- "one book for all jobs, fed with the calls alone": the calls of the good records
-abbrev pub callsIn : List ℕ → List Call
-callsIn bs = map callOfRecord (recordsIn bs)
+-- "one book for all jobs, fed with the calls alone": the calls of some records
+abbrev pub calls : List Entry → List Call
+calls es = map (λ e. e .call) es
 
 -- "Answers are 12 bytes: mark 4E 41, kind, refusal, ..": each record's kind and answer, record by record
-unfoldable pub answerLines : List (List ℕ) → List Answer → List ℕ
+unfoldable pub answerLines : List Entry → List Answer → List ℕ
 answerLines [] given = []
-answerLines (r ∷ rs) [] = []
-answerLines (r ∷ rs) (a ∷ given) = answerBytes (byteAt r 2) (numbers a) ++ answerLines rs given
+answerLines (e ∷ es) [] = []
+answerLines (e ∷ es) (a ∷ given) = answerBytes (e .kind) (numbers a) ++ answerLines es given
+
+-- the book's answers to some records
+abbrev pub bookLines : Machine → Tables → List Entry → List ℕ
+bookLines m t es = answerLines es (answers m t (calls es))
 
 -- "The end of input after a whole record ends the run without an answer"; "A bad mark, kind, unused byte or short record .. answers kind
 -- FF, refusal 13, .. and ends"
@@ -47,4 +47,15 @@ ending (b ∷ bs) = faulty 13
 
 -- the book's answers to the calls of the records, and then what ends the run
 abbrev pub bookRun : Machine → Tables → List ℕ → List ℕ
-bookRun m t bs = answerLines (recordsIn bs) (answers m t (callsIn bs)) ++ ending (pastRecords bs)
+bookRun m t bs = bookLines m t (recordsIn bs) ++ ending (past bs (recordsIn bs))
+
+-- with room for one answer more than there are good records, a whole record past them is damaged
+abbrev pub meetsDamage : ℕ → List ℕ → List Entry → Bool
+meetsDamage room bs es = ltb (length es) room && isWhole (past bs es)
+
+-- the book's part: as many of the records as there is room for answers, and damage that it meets
+abbrev pub bookPart : ℕ → Machine → Tables → List ℕ → List Entry → Ran
+bookPart room m t bs es =
+    let ds = take room es in
+    let damage = meetsDamage room bs es in
+    ran (sum (map (λ e. e .size) ds)) (bookLines m t ds ++ cond damage (faulty 13) []) (not damage) (final m t (calls ds))

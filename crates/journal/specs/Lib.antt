@@ -1,5 +1,6 @@
-pub mod Enums
-pub mod Runs
+pub mod Reads
+pub mod Parts
 pub mod BookRun
+pub mod Opening
+pub mod Passes
 pub mod Whole
-pub mod Zeros

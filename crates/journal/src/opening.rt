@@ -5,20 +5,22 @@ ghost use mathlib.Core.Bool.{true, _&&_};
 ghost use Prim.Native.Nat.{_≤_};
 ghost use lib.ListN.{length, take};
 ghost use lib.Dec.{leb};
+ghost use Rattle.rules.specs.Answers.{decisionOf};
 ghost use Rattle.rules.specs.Basics.{sum};
 ghost use Rattle.rules.specs.Machine.{machineOk};
-ghost use Rattle.rules.specs.Journal.{byteAt, headSize, headOk, countsOk, machineSize, machineIn, journalPages};
-ghost use Rattle.journal.specs.Enums.{openingOf, verdict, openingSize};
+ghost use Rattle.rules.specs.Journal.{byteAt, headSize, headOk, countsOk, machineSize, machineIn, journalPages, opening};
+ghost use Rattle.journal.specs.Opening.{openingSize};
 use super::reading::byte_at;
 use super::reading::marked;
 use super::reading::u16_at;
+use rules::Decision;
 use rules::Refusal;
 
-// What a machine record comes to: its size, or the refusal of the journal.
-pub enum Opening {
-    Good(usize),
-    Faulty(Refusal),
-}
+// "at most 16,384 pages"
+pub const PAGES: usize = 16384;
+
+// The longest machine record: 16 nodes and 64 CPUs.
+pub const LONGEST: usize = 358;
 
 // The six head bytes are there and undamaged.
 pub fn head_ok(bytes: &[u8]) -> bool
@@ -84,6 +86,16 @@ pub fn distance_bytes(bytes: &[u8]) -> &[u8]
     &bytes[start..end]
 }
 
+// How many pages the machine has.
+pub fn total_pages(bytes: &[u8]) -> usize
+    requires { ⌜ (countsOk (now bytes) ≡ true) × (machineSize (now bytes) ≤ length (now bytes)) ⌝ }
+    ensures { λ r. ⌜ r ≡ sum (machineIn (now (bytes .entry)) .pageCounts) ⌝ }
+{
+    let n = byte_at(bytes, 3);
+    let all = page_counts(bytes);
+    machine::total_pages(&all[..n])
+}
+
 // "the other rules": the machine is in order, with "at most 16,384 pages".
 pub fn machine_ok(bytes: &[u8]) -> bool
     requires { ⌜ (countsOk (now bytes) ≡ true) × (machineSize (now bytes) ≤ length (now bytes)) ⌝ }
@@ -92,28 +104,28 @@ pub fn machine_ok(bytes: &[u8]) -> bool
     let n = byte_at(bytes, 3);
     let all = page_counts(bytes);
     let counts = &all[..n];
-    let few = machine::page_table_ok(counts, 16_384);
+    let few = machine::total_pages(counts) <= PAGES;
     machine::machine_ok(counts, cpu_bytes(bytes), distance_bytes(bytes)) & few
 }
 
-// "the six head bytes' 13, then N and CPU count, then shortness, then the other rules"
-pub fn verdict(bytes: &[u8]) -> Opening
-    ensures { λ r. ⌜ openingOf r ≡ verdict (now (bytes .entry)) ⌝ }
+// "the six head bytes' 13, then N and CPU count, then shortness, then the other rules": the size of a good machine record.
+pub fn verdict(bytes: &[u8]) -> Decision
+    ensures { λ r. ⌜ decisionOf r ≡ opening (now (bytes .entry)) ⌝ }
 {
     if !head_ok(bytes) {
-        return Opening::Faulty(Refusal::DamagedJournal);
+        return Decision::Refuse(Refusal::DamagedJournal);
     }
     if !counts_ok(bytes) {
-        return Opening::Faulty(Refusal::BadTables);
+        return Decision::Refuse(Refusal::BadTables);
     }
     let size = machine_size(bytes);
     if bytes.len() < size {
-        return Opening::Faulty(Refusal::DamagedJournal);
+        return Decision::Refuse(Refusal::DamagedJournal);
     }
     if !machine_ok(bytes) {
-        return Opening::Faulty(Refusal::BadTables);
+        return Decision::Refuse(Refusal::BadTables);
     }
-    Opening::Good(size)
+    Decision::Accept(size as u64)
 }
 
 // How many bytes the verdict goes by, as the six head bytes say.

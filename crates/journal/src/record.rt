@@ -1,86 +1,44 @@
-// A record of 32 bytes: whether it is whole and undamaged, and the call in it.
+// A record: whether it is there to its end, and the call in it.
 
 ghost use mathlib.Core.Path.{_≡_};
-ghost use mathlib.Core.Bool.{true, _||_};
-ghost use mathlib.Core.Option.{some};
+ghost use mathlib.Core.Bool.{cond};
 ghost use Prim.Native.Nat.{_+_, _-_, _≤_, _<_};
-ghost use lib.ListN.{length, take};
-ghost use lib.Dec.{ltb, eqb};
-ghost use Rattle.rules.specs.Basics.{allAt};
-ghost use Rattle.rules.specs.Journal.{kindOf, kindKnown, used, recordSize, recordOk, callIn};
-ghost use Rattle.journal.specs.Enums.{kindIn, callOf, placesIn};
-ghost use Rattle.journal.specs.Zeros.{zeroed};
+ghost use lib.ListN.{length};
+ghost use Rattle.rules.specs.Records.{placesPerJob};
+ghost use Rattle.rules.specs.Journal.{request′, release′, rebind′, install′, clear′, byteAt, number, part, kindOf, sizeOf, unusedBytesZero, readRecord};
+ghost use Rattle.journal.specs.Reads.{Reads, zeroed};
+ghost use Rattle.journal.specs.Parts.{isWhole};
+use super::reading::byte_at;
 use super::reading::marked;
 use super::reading::u32_at;
 use super::reading::u64_at;
-use rules::Page;
-use rules::Place;
+use book::Call;
+use rules::PLACES_PER_JOB;
 
-// "kind (1 request, 2 release, 3 rebind, 4 install, 5 clear)"
-pub enum Kind {
-    Request,
-    Release,
-    Rebind,
-    Install,
-    Clear,
-    Unknown,
-}
-
-// The call in a record. The places of an install are the first `len` of `places_in`.
-pub enum Call {
-    Request {
-        job: u8,
-        cpu: u8,
-    },
-    Release {
-        job: u8,
-        page: Page,
-    },
-    Rebind {
-        job: u8,
-        allowed: u64,
-    },
-    Install {
-        job: u8,
-        mode: u8,
-        flag: u8,
-        mask: u64,
-        len: u8,
-    },
-    Clear {
-        job: u8,
-    },
+// What is read of a record. The places of an install are in `places_in`.
+pub enum Reading {
+    Entry { kind: u8, size: usize, call: Call },
     Damaged,
 }
 
-impl Kind {
-    // The kind of a number.
-    pub fn of(number: u8) -> Kind
-        ensures { λ r. ⌜ kindIn r ≡ kindOf number ⌝ }
-    {
-        match number {
-            1 => Kind::Request,
-            2 => Kind::Release,
-            3 => Kind::Rebind,
-            4 => Kind::Install,
-            5 => Kind::Clear,
-            _ => Kind::Unknown,
-        }
-    }
+// No record is shorter: "Then 32-byte records".
+const SHORTEST: usize = 32;
 
-    // It is one of the five.
-    pub fn known(self) -> bool
-        ensures { λ r. ⌜ r ≡ kindKnown (kindIn self) ⌝ }
-    {
-        match self {
-            Kind::Request => true,
-            Kind::Release => true,
-            Kind::Rebind => true,
-            Kind::Install => true,
-            Kind::Clear => true,
-            Kind::Unknown => false,
-        }
+// The size of a record, by the number of its kind.
+fn size_of(kind: u8) -> usize
+    ensures { λ r. ⌜ r ≡ sizeOf (kindOf kind) ⌝ }
+{
+    32
+}
+
+// Is the record that the bytes start with there to its end?
+pub fn whole(bytes: &[u8]) -> bool
+    ensures { λ r. ⌜ r ≡ isWhole (now (bytes .entry)) ⌝ }
+{
+    if bytes.len() < SHORTEST {
+        return false;
     }
+    size_of(bytes[2]) <= bytes.len()
 }
 
 // Of the eight bytes at a place, those from k on are zero.
@@ -93,7 +51,7 @@ fn zero_from(bytes: &[u8], at: usize, k: usize) -> bool
 
 // The places from len on are zero.
 fn places_zero(bytes: &[u8], len: usize) -> bool
-    requires { ⌜ recordSize ≤ length (now bytes) ⌝ }
+    requires { ⌜ 32 ≤ length (now bytes) ⌝ }
     ensures { λ r. ⌜ r ≡ zeroed (16 + len) (16 - len) (now (bytes .entry)) ⌝ }
 {
     if len < 8 {
@@ -105,75 +63,140 @@ fn places_zero(bytes: &[u8], len: usize) -> bool
     true
 }
 
-// "Unused bytes are zero": eight bytes at a time.
-fn unused_zero(bytes: &[u8], kind: Kind, len: u8) -> bool
-    requires { ⌜ recordSize ≤ length (now bytes) ⌝ }
-    ensures { λ r. ⌜ r ≡ allAt (λ i b. ltb i 3 || used (kindIn kind) len i || eqb b 0) 0 (take recordSize (now (bytes .entry))) ⌝ }
+// "Request uses job and CPU": the other bytes are zero, tested eight at a time, as are the next four.
+fn request_unused(bytes: &[u8]) -> bool
+    requires { ⌜ 32 ≤ length (now bytes) ⌝ }
+    ensures { λ r. ⌜ r ≡ unusedBytesZero request′ (now (bytes .entry)) ⌝ }
 {
+    zero_from(bytes, 0, 5) & zero_from(bytes, 8, 0) & places_zero(bytes, 0)
+}
+
+// "release job and page"
+fn release_unused(bytes: &[u8]) -> bool
+    requires { ⌜ 32 ≤ length (now bytes) ⌝ }
+    ensures { λ r. ⌜ r ≡ unusedBytesZero release′ (now (bytes .entry)) ⌝ }
+{
+    zero_from(bytes, 0, 4) & zero_from(bytes, 8, 4) & places_zero(bytes, 0)
+}
+
+// "rebind job and mask"
+fn rebind_unused(bytes: &[u8]) -> bool
+    requires { ⌜ 32 ≤ length (now bytes) ⌝ }
+    ensures { λ r. ⌜ r ≡ unusedBytesZero rebind′ (now (bytes .entry)) ⌝ }
+{
+    zero_from(bytes, 0, 4) & places_zero(bytes, 0)
+}
+
+// "install all but CPU, its places only up to the list length"
+fn install_unused(bytes: &[u8]) -> bool
+    requires { ⌜ 32 ≤ length (now bytes) ⌝ }
+    ensures { λ r. ⌜ r ≡ unusedBytesZero install′ (now (bytes .entry)) ⌝ }
+{
+    (bytes[4] == 0) & places_zero(bytes, byte_at(bytes, 7))
+}
+
+// "clear job"
+fn clear_unused(bytes: &[u8]) -> bool
+    requires { ⌜ 32 ≤ length (now bytes) ⌝ }
+    ensures { λ r. ⌜ r ≡ unusedBytesZero clear′ (now (bytes .entry)) ⌝ }
+{
+    zero_from(bytes, 0, 4) & zero_from(bytes, 8, 0) & places_zero(bytes, 0)
+}
+
+// The install in a record.
+fn install_in(bytes: &[u8]) -> Call
+    requires { ⌜ 32 ≤ length (now bytes) ⌝ }
+    ensures { λ r. ⌜ r ≡ Call.Install (byteAt (now (bytes .entry)) 3) (byteAt (now (bytes .entry)) 5) (byteAt (now (bytes .entry)) 6) (number 8 8 (now (bytes .entry))) (byteAt (now (bytes .entry)) 7) ⌝ }
+{
+    let job = byte_at(bytes, 3);
+    let mode = byte_at(bytes, 5) as u64;
+    let flag = byte_at(bytes, 6) as u64;
+    let len = byte_at(bytes, 7);
+    Call::Install {
+        job: job,
+        mode: mode,
+        flag: flag,
+        mask: u64_at(bytes, 8),
+        len: len,
+    }
+}
+
+// A record whose unused bytes are zero, or a damaged one.
+fn read_as(kind: u8, size: usize, good: bool, call: Call) -> Reading
+    ensures { λ r. ⌜ r ≡ cond good (Reading.Entry kind size call) Reading.Damaged ⌝ }
+{
+    if good {
+        return Reading::Entry {
+            kind: kind,
+            size: size,
+            call: call,
+        };
+    }
+    Reading::Damaged
+}
+
+// The record that the bytes start with: "A bad mark, kind, unused byte or short record" is damage.
+pub fn read_record(bytes: &[u8]) -> Reading
+    ensures { λ r. ⌜ Reads r (part 16 placesPerJob (now (bytes .entry))) (readRecord (now (bytes .entry))) ⌝ }
+{
+    if bytes.len() < SHORTEST {
+        return Reading::Damaged;
+    }
+    let kind = bytes[2];
+    let size = size_of(kind);
+    if bytes.len() < size {
+        return Reading::Damaged;
+    }
+    if !marked(bytes) {
+        return Reading::Damaged;
+    }
+    let job = byte_at(bytes, 3);
     match kind {
-        Kind::Request => zero_from(bytes, 0, 5) & zero_from(bytes, 8, 0) & places_zero(bytes, 0),
-        Kind::Release => zero_from(bytes, 0, 4) & zero_from(bytes, 8, 4) & places_zero(bytes, 0),
-        Kind::Rebind => zero_from(bytes, 0, 4) & places_zero(bytes, 0),
-        Kind::Install => (bytes[4] == 0) & places_zero(bytes, len as usize),
-        Kind::Clear => zero_from(bytes, 0, 4) & zero_from(bytes, 8, 0) & places_zero(bytes, 0),
-        Kind::Unknown => zero_from(bytes, 0, 3) & zero_from(bytes, 8, 0) & places_zero(bytes, 0),
+        1 => {
+            let cpu = byte_at(bytes, 4);
+            read_as(
+                kind,
+                size,
+                request_unused(bytes),
+                Call::Request { job: job, cpu: cpu },
+            )
+        }
+        2 => {
+            let page = u32_at(bytes, 8) as usize;
+            read_as(
+                kind,
+                size,
+                release_unused(bytes),
+                Call::Release {
+                    job: job,
+                    page: page,
+                },
+            )
+        }
+        3 => {
+            let allowed = u64_at(bytes, 8);
+            read_as(
+                kind,
+                size,
+                rebind_unused(bytes),
+                Call::Rebind {
+                    job: job,
+                    allowed: allowed,
+                },
+            )
+        }
+        4 => read_as(kind, size, install_unused(bytes), install_in(bytes)),
+        5 => read_as(kind, size, clear_unused(bytes), Call::Clear { job: job }),
+        _ => Reading::Damaged,
     }
 }
 
-// The record is whole and undamaged.
-pub fn record_ok(bytes: &[u8]) -> bool
-    ensures { λ r. ⌜ r ≡ recordOk (now (bytes .entry)) ⌝ }
+// "places in 16-31"
+pub fn places_in(bytes: &[u8]) -> [u8; PLACES_PER_JOB]
+    requires { ⌜ 32 ≤ length (now bytes) ⌝ }
+    ensures { λ r. ⌜ r ≡ part 16 placesPerJob (now (bytes .entry)) ⌝ }
 {
-    if bytes.len() < 32 {
-        return false;
-    }
-    let kind = Kind::of(bytes[2]);
-    let unused = unused_zero(bytes, kind, bytes[7]);
-    marked(bytes) & kind.known() & unused
-}
-
-// The call in a record of a known kind.
-pub fn decode(bytes: &[u8], kind: Kind) -> Call
-    requires { ⌜ (recordSize ≤ length (now bytes)) × (kindKnown (kindIn kind) ≡ true) ⌝ }
-    ensures { λ r. ⌜ callOf r (placesIn (now (bytes .entry))) ≡ some (callIn (kindIn kind) (now (bytes .entry))) ⌝ }
-{
-    let job = bytes[3];
-    match kind {
-        Kind::Request => Call::Request {
-            job: job,
-            cpu: bytes[4],
-        },
-        Kind::Release => Call::Release {
-            job: job,
-            page: Page(u32_at(bytes, 8)),
-        },
-        Kind::Rebind => Call::Rebind {
-            job: job,
-            allowed: u64_at(bytes, 8),
-        },
-        Kind::Install => Call::Install {
-            job: job,
-            mode: bytes[5],
-            flag: bytes[6],
-            mask: u64_at(bytes, 8),
-            len: bytes[7],
-        },
-        Kind::Clear => Call::Clear { job: job },
-        Kind::Unknown => Call::Damaged,
-    }
-}
-
-// The places of an install, with zeros behind them: as many as a list length can count.
-pub fn places_in(bytes: &[u8]) -> [u8; 255]
-    requires { ⌜ recordSize ≤ length (now bytes) ⌝ }
-    ensures { λ r. ⌜ r ≡ placesIn (now (bytes .entry)) ⌝ }
-{
-    let mut places = [0u8; 255];
-    let mut place = Place(0);
-    while place.0 < 16 {
-        let at = place.0 as usize;
-        places[at] = bytes[16 + at];
-        place = Place(place.0 + 1);
-    }
+    let mut places = [0u8; PLACES_PER_JOB];
+    bytes::copy(&bytes[16..32], &mut places);
     places
 }

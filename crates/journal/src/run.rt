@@ -1,136 +1,39 @@
-// The calls of a journal, record by record.
+// The records of a journal, one after the other.
 
 ghost use mathlib.Core.Bool.{true};
 ghost use mathlib.Core.Path.{_≡_};
-ghost use Prim.Native.Nat.{_/_, _≤_, _<_};
-ghost use lib.ListN.{length, take};
-ghost use Rattle.rules.specs.Calls.{requestTablesOk, recordTablesOk, onInstall};
-ghost use Rattle.rules.specs.Replies.{answerOf};
-ghost use Rattle.rules.specs.Journal.{recordSize, recordOk};
+ghost use Prim.Native.Nat.{_≤_};
+ghost use lib.ListN.{length};
+ghost use Rattle.rules.specs.Machine.{Machine};
+ghost use Rattle.rules.specs.Calls.{Tables, tablesOf, requestTablesOk};
+ghost use Rattle.rules.specs.Journal.{machineIn};
 ghost use Rattle.machine.specs.Tables.{machineOf};
-ghost use Rattle.placement.specs.Lent.{tablesOf, Did};
-ghost use Rattle.journal.specs.Enums.{placesIn};
-ghost use Rattle.journal.specs.Runs.{answerSize, outcomeOf, Answered, Runs};
-use super::answer::answer_bytes;
-use super::answer::fault_bytes;
-use super::record::Call;
-use super::record::Kind;
-use super::record::decode;
+ghost use Rattle.journal.specs.Opening.{Opened};
+ghost use Rattle.journal.specs.Parts.{answerSize, runOf, oneRecord, putInto, onPart};
+ghost use Rattle.journal.specs.Passes.{passed};
+use super::answer::ANSWER_SIZE;
+use super::answer::fault;
+use super::answer::line;
+use super::opening::cpu_bytes;
+use super::opening::distance_bytes;
+use super::opening::page_counts;
+use super::reading::byte_at;
+use super::record::Reading;
 use super::record::places_in;
-use super::record::record_ok;
-use placement::release;
-use placement::request_at;
-use records;
+use super::record::read_record;
+use super::record::whole;
+use book;
 use rules::Refusal;
-use rules::Reply;
 
-// What a record comes to: its answer, and whether the run goes on.
-pub struct Line {
-    pub bytes: [u8; 12],
-    pub more: bool,
-}
-
-// What the records of a run come to: the bytes of their answers, and whether the run goes on.
-pub struct Ran {
+// What a part of a run comes to: the bytes of the records that it did and those of their answers, and whether the run goes on.
+pub struct Part {
+    pub read: usize,
     pub written: usize,
     pub more: bool,
 }
 
-// An install with the places of the record.
-fn install(
-    nodes: usize,
-    jobs: &mut [u64],
-    bytes: &[u8],
-    job: u8,
-    mode: u8,
-    flag: u8,
-    mask: u64,
-    len: u8,
-) -> Reply
-    requires { ⌜ (recordTablesOk nodes (length (now jobs)) ≡ true) × (recordSize ≤ length (now bytes)) ⌝ }
-    ensures answer { λ r. ⌜ answerOf r ≡ onInstall nodes (now (jobs .entry)) job mode flag mask (take len (placesIn (now (bytes .entry)))) .answer ⌝ }
-    ensures records { λ r. ⌜ now (jobs .exit) ≡ onInstall nodes (now (jobs .entry)) job mode flag mask (take len (placesIn (now (bytes .entry)))) .records ⌝ }
-{
-    let places = places_in(bytes);
-    let count = len as usize;
-    records::install_at(
-        nodes,
-        jobs,
-        job as usize,
-        mode as u64,
-        flag as u64,
-        mask,
-        &places[..count],
-    )
-}
-
-// Runs the call in a record that is undamaged.
-fn perform(
-    counts: &[u32],
-    cpus: &[u8],
-    distances: &[u8],
-    pages: &mut [u8],
-    jobs: &mut [u64],
-    bytes: &[u8],
-) -> Reply
-    requires { ⌜ (requestTablesOk (machineOf (now counts) (now cpus) (now distances)) (tablesOf (now pages) (now jobs)) ≡ true) × (recordOk (now bytes) ≡ true) ⌝ }
-    ensures { λ r. ⌜ Did (outcomeOf (machineOf (now (counts .entry)) (now (cpus .entry)) (now (distances .entry))) (tablesOf (now (pages .entry)) (now (jobs .entry))) (now (bytes .entry))) (answerOf r) (now (pages .exit)) (now (jobs .exit)) ⌝ }
-{
-    let nodes = counts.len();
-    let call = decode(bytes, Kind::of(bytes[2]));
-    match call {
-        Call::Request { job, cpu } => request_at(
-            counts,
-            cpus,
-            distances,
-            pages,
-            jobs,
-            job as usize,
-            cpu as usize,
-        ),
-        Call::Release { job, page } => {
-            release::release_at(counts, pages, jobs, job as usize, page.0 as usize)
-        }
-        Call::Rebind { job, allowed } => records::rebind_at(nodes, jobs, job as usize, allowed),
-        Call::Install {
-            job,
-            mode,
-            flag,
-            mask,
-            len,
-        } => install(nodes, jobs, bytes, job, mode, flag, mask, len),
-        Call::Clear { job } => records::clear_at(nodes, jobs, job as usize),
-        Call::Damaged => Reply::Refused(Refusal::DamagedJournal),
-    }
-}
-
-// The answer to the record that the bytes start with: "A bad mark, kind, unused byte or short record .. ends" the run.
-pub fn run_call(
-    counts: &[u32],
-    cpus: &[u8],
-    distances: &[u8],
-    pages: &mut [u8],
-    jobs: &mut [u64],
-    bytes: &[u8],
-) -> Line
-    requires { ⌜ requestTablesOk (machineOf (now counts) (now cpus) (now distances)) (tablesOf (now pages) (now jobs)) ≡ true ⌝ }
-    ensures { λ r. ⌜ Answered (machineOf (now (counts .entry)) (now (cpus .entry)) (now (distances .entry))) (tablesOf (now (pages .entry)) (now (jobs .entry))) (now (bytes .entry)) (r .bytes) (r .more) (tablesOf (now (pages .exit)) (now (jobs .exit))) ⌝ }
-{
-    if !record_ok(bytes) {
-        return Line {
-            bytes: fault_bytes(Refusal::DamagedJournal),
-            more: false,
-        };
-    }
-    let reply = perform(counts, cpus, distances, pages, jobs, bytes);
-    Line {
-        bytes: answer_bytes(bytes[2], reply),
-        more: true,
-    }
-}
-
-// The answers to all records, put at the start of the output.
-pub fn run_calls(
+// The record that the input starts with: "A bad mark, kind, unused byte or short record .. ends" the run.
+fn run_record(
     counts: &[u32],
     cpus: &[u8],
     distances: &[u8],
@@ -138,27 +41,116 @@ pub fn run_calls(
     jobs: &mut [u64],
     input: &[u8],
     output: &mut [u8],
-) -> Ran
-    requires { ⌜ (requestTablesOk (machineOf (now counts) (now cpus) (now distances)) (tablesOf (now pages) (now jobs)) ≡ true) × (length (now input) / recordSize < length (now output) / answerSize) ⌝ }
-    ensures { λ r. ⌜ Runs (machineOf (now (counts .entry)) (now (cpus .entry)) (now (distances .entry))) (tablesOf (now (pages .entry)) (now (jobs .entry))) (now (input .entry)) (now (output .entry)) (r .written) (r .more) (tablesOf (now (pages .exit)) (now (jobs .exit))) (now (output .exit)) ⌝ }
+) -> Part
+    requires { ⌜ (requestTablesOk (machineOf (now counts) (now cpus) (now distances)) (tablesOf (now pages) (now jobs)) ≡ true) × (answerSize ≤ length (now output)) ⌝ }
+    ensures { λ r. ⌜ passed r (tablesOf (now (pages .exit)) (now (jobs .exit))) (now (output .exit)) ≡ putInto (now (output .entry)) (oneRecord (machineOf (now (counts .entry)) (now (cpus .entry)) (now (distances .entry))) (tablesOf (now (pages .entry)) (now (jobs .entry))) (now (input .entry))) ⌝ }
 {
-    let mut written = 0;
+    let read = read_record(input);
+    match read {
+        Reading::Entry { kind, size, call } => {
+            let places = places_in(input);
+            let answer = book::perform(counts, cpus, distances, pages, jobs, call, places);
+            let bytes = line(kind, answer);
+            Part {
+                read: size,
+                written: bytes::copy(&bytes, output),
+                more: true,
+            }
+        }
+        Reading::Damaged => {
+            let bytes = fault(Refusal::DamagedJournal);
+            Part {
+                read: 0,
+                written: bytes::copy(&bytes, output),
+                more: false,
+            }
+        }
+    }
+}
+
+// The whole records at the start of the input, as far as the output has room for their answers.
+fn run_records(
+    counts: &[u32],
+    cpus: &[u8],
+    distances: &[u8],
+    pages: &mut [u8],
+    jobs: &mut [u64],
+    input: &[u8],
+    output: &mut [u8],
+) -> Part
+    requires { ⌜ requestTablesOk (machineOf (now counts) (now cpus) (now distances)) (tablesOf (now pages) (now jobs)) ≡ true ⌝ }
+    ensures { λ r. ⌜ passed r (tablesOf (now (pages .exit)) (now (jobs .exit))) (now (output .exit)) ≡ onPart (machineOf (now (counts .entry)) (now (cpus .entry)) (now (distances .entry))) (tablesOf (now (pages .entry)) (now (jobs .entry))) (now (input .entry)) (now (output .entry)) ⌝ }
+{
     let mut at = 0;
-    while at < input.len() {
-        let line = run_call(counts, cpus, distances, pages, jobs, &input[at..]);
-        let answer = line.bytes;
-        bytes::copy(&answer, &mut output[written..]);
-        written += 12;
-        if !line.more {
-            return Ran {
+    let mut written = 0;
+    while whole(&input[at..]) & (ANSWER_SIZE <= output.len() - written) {
+        let one = run_record(
+            counts,
+            cpus,
+            distances,
+            pages,
+            jobs,
+            &input[at..],
+            &mut output[written..],
+        );
+        at += one.read;
+        written += one.written;
+        if !one.more {
+            return Part {
+                read: at,
                 written: written,
-                more: line.more,
+                more: false,
             };
         }
-        at += 32;
     }
-    Ran {
+    Part {
+        read: at,
         written: written,
         more: true,
     }
+}
+
+// A part of a run: the machine is in the machine record. A record that is not yet whole is left, for the bytes that follow; at the end of
+// input it is a short record.
+pub fn run_part(
+    opening: &[u8],
+    pages: &mut [u8],
+    jobs: &mut [u64],
+    input: &[u8],
+    output: &mut [u8],
+) -> Part
+    requires { ⌜ Opened (now opening) (tablesOf (now pages) (now jobs)) ⌝ }
+    ensures { λ r. ⌜ passed r (tablesOf (now (pages .exit)) (now (jobs .exit))) (now (output .exit)) ≡ onPart (machineIn (now (opening .entry))) (tablesOf (now (pages .entry)) (now (jobs .entry))) (now (input .entry)) (now (output .entry)) ⌝ }
+{
+    let n = byte_at(opening, 3);
+    let all = page_counts(opening);
+    let counts = &all[..n];
+    let cpus = cpu_bytes(opening);
+    let distances = distance_bytes(opening);
+    run_records(counts, cpus, distances, pages, jobs, input, output)
+}
+
+// The bytes that the answers to all records take: their form alone decides it.
+pub fn answers_size(input: &[u8]) -> usize
+    ensures { λ r. ⌜ ((m : Machine) (t : Tables) → r ≡ length (runOf m t (now (input .entry)))) ⌝ }
+{
+    let mut at = 0;
+    let mut size = 0;
+    while at < input.len() {
+        size += ANSWER_SIZE;
+        let read = read_record(&input[at..]);
+        match read {
+            Reading::Entry {
+                kind: _,
+                size: bytes,
+                call: _,
+            } => {
+                at += bytes;
+            }
+            Reading::Damaged => {
+                return size;
+            }
+        }
+    }
+    size
 }

@@ -11,6 +11,10 @@ use Rattle.rules.specs.Machine.{Machine}
 abbrev pub machineOf : List ℕ → List ℕ → List ℕ → Machine
 machineOf counts cpus distances = record { pageCounts = counts; cpuNodes = cpus; distances = distances }
 
--- "10 on the diagonal"
+-- "10 on the diagonal": in row i
+abbrev pub ownOk : ℕ → List ℕ → ℕ → Bool
+ownOk n distances i = eqb (getD distances (i * n + i) 0) 10
+
+-- and in every row
 unfoldable pub diagonalOk : ℕ → List ℕ → Bool
-diagonalOk n distances = all (λ i. eqb (getD distances (i * n + i) 0) 10) (from 0 n)
+diagonalOk n distances = all (ownOk n distances) (from 0 n)

@@ -27,7 +27,8 @@ use Rattle.nodelist.specs.declared.reader.Item.{Item}
 use Rattle.nodelist.specs.declared.reader.Item.the-variants.{Empty, Number as NumberItem, Dashed, Range, Broken}
 use Rattle.nodelist.specs.declared.reader.Progress.{Progress}
 use Rattle.nodelist.specs.declared.reader.Numbers.{Numbers}
-use Rattle.nodelist.specs.Reader.{itemsRead, span, progress, withSpan, readOn, answer, ended, Fits, grown, numberBelow, rangeBelow, withDigit, withDash}
+use Rattle.nodelist.specs.Reader.{itemsRead, span, progress, withSpan, readOn, answer, ended, Fits, grown, numberBelow, rangeBelow, withDigit}
+use Rattle.nodelist.specs.Reader.{withDash}
 use Rattle.nodelist.specs.Reader.{withByte, closed, stepped}
 
 -- ---- the numbers of an item stay small

@@ -13,9 +13,10 @@ use lib.Dec.{eqb}
 use borrow.Author.Tests.{eq-eqb, ne-eqb, le-leb, lt-leb}
 use Rattle.rules.specs.Basics.{same}
 use Rattle.rules.specs.Machine.{nodesOk}
-use Rattle.rules.specs.Calls.{refuse, accept, unless}
+use Rattle.rules.specs.Decisions.{refuse, accept, unless}
 use Rattle.rules.specs.Masks.{maskBits, below, has, allNodes, rank, size, maskOf}
-use Rattle.rules.specs.Text.{bang, plus, allWord, longestText, isItems, names, noText, allText, items, except, ranks, formBy, formOf, formOk, formMask}
+use Rattle.rules.specs.Text.{bang, plus, allWord, longestText, isItems, names, noText, allText, items, except, ranks, formBy, formOf, formOk}
+use Rattle.rules.specs.Text.{formMask}
 use Rattle.rules.specs.Text.{readText}
 use Rattle.rules.proofs.Lists.{both-true, fails}
 use Rattle.rules.proofs.Masks.{not-in, bit-above, rank-le, maskOf-lt, has-maskOf, maskOf-same, maskOf-narrow, maskOf-not}

@@ -13,7 +13,7 @@ use borrow.Author.Tests.{eqb-true, eq-eqb, ne-eqb, ltb-true, ltb-false, leb-true
 use Rattle.rules.specs.Basics.{all, any, keep, from, between, same}
 use Rattle.rules.specs.Machine.{nodesOk}
 use Rattle.rules.specs.Masks.{maskBits, bit, has, below, maskOf}
-use Rattle.rules.specs.Calls.{accept}
+use Rattle.rules.specs.Decisions.{accept}
 use Rattle.rules.specs.Text.{comma, dash, split, valueFrom, value, isItem, itemHas, isItems, names, formBy, formOf, formOk, formMask, items, readText}
 use Rattle.rules.specs.Text.{longestText, Run, joined, runs, decimal, runText, commas, textOf}
 use Rattle.rules.proofs.Lists.{both-true, both-hold, same-test, between-true, true-between, all-append, _∈_, true-any, none-any}

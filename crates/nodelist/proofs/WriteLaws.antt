@@ -11,12 +11,9 @@ use borrow.Author.Tests.{le-leb, lt-leb}
 use Rattle.rules.specs.Machine.{nodesOk}
 use Rattle.rules.specs.Masks.{maskBits, below, has}
 use Rattle.rules.specs.Basics.{keep, each, from}
-use Rattle.rules.specs.Calls.{Decision, refuse, accept}
-use Rattle.rules.specs.Text.{comma, Run, runs, runText, commas, textOf, Written, writeDecision, writing, writeText}
-use Rattle.nodelist.specs.Writer.{runsFrom, lineRun, lineOf, textWritten}
-
-abbrev answered : Decision ℕ → List ℕ → Written
-answered d out = record { answer = d; output = out }
+use Rattle.rules.specs.Decisions.{refuse, accept, wrote, written}
+use Rattle.rules.specs.Text.{comma, Run, runs, runText, commas, textOf, writeDecision, writeText}
+use Rattle.nodelist.specs.Writer.{runsFrom, lineRun, lineOf}
 
 -- ---- the text is the line past its first comma
 
@@ -54,42 +51,42 @@ long-enough len line text e t = omega (arith, length-take len line, ap length t)
 
 module _ (m : ℕ) (out : List ℕ) where
   -- "11 output shorter than the text"
-  pub text-too-long : length out < length (textOf m) → textWritten m out ≡ answered (refuse 11) out
-  unfolding textWritten writing
+  pub text-too-long : length out < length (textOf m) → written out (textOf m) ≡ wrote (refuse 11) out
+  unfolding written
   text-too-long l = rw (lt-leb (length (textOf m)) (length out) l)
 
   -- the text fits: it is written, and no byte past it changes
-  pub text-done : length (textOf m) ≤ length out → textWritten m out ≡ answered (accept (length (textOf m))) (textOf m ++ drop (length (textOf m)) out)
-  unfolding textWritten writing
+  pub text-done : length (textOf m) ≤ length out → written out (textOf m) ≡ wrote (accept (length (textOf m))) (textOf m ++ drop (length (textOf m)) out)
+  unfolding written
   text-done l = rw (le-leb (length (textOf m)) (length out) l)
 
   -- the text is copied to the start of the output
   pub text-copied : {size : ℕ} {src last : List ℕ} → length (textOf m) ≤ length out → src ≡ textOf m → size ≡ length src
-      → last ≡ take (length src) src ++ drop (length src) out → answered (accept size) last ≡ textWritten m out
+      → last ≡ take (length src) src ++ drop (length src) out → wrote (accept size) last ≡ written out (textOf m)
   text-copied {size} {src} {last} l e s c =
-      ap₂ (λ (k : ℕ) (t : List ℕ). answered (accept k) t) s (c ∙ ap (λ (t : List ℕ). t ++ drop (length src) out) (take-length src))
-      ∙ ap (λ (t : List ℕ). answered (accept (length t)) (t ++ drop (length t) out)) e
+      ap₂ (λ (k : ℕ) (t : List ℕ). wrote (accept k) t) s (c ∙ ap (λ (t : List ℕ). t ++ drop (length src) out) (take-length src))
+      ∙ ap (λ (t : List ℕ). wrote (accept (length t)) (t ++ drop (length t) out)) e
       ∙ sym (text-done l)
 
   -- an empty text fits everywhere
-  pub text-empty : length (lineOf m) ≡ 0 → textWritten m out ≡ answered (accept 0) out
+  pub text-empty : length (lineOf m) ≡ 0 → written out (textOf m) ≡ wrote (accept 0) out
   text-empty l =
       let z : length (textOf m) ≡ 0 = text-length m ∙ ap (λ (x : ℕ). x - 1) l in
       text-done (omega arith)
-      ∙ ap₂ (λ (k : ℕ) (t : List ℕ). answered (accept k) (t ++ drop k out)) z (drop-of-length-le (textOf m) {i = 0} (omega arith))
+      ∙ ap₂ (λ (k : ℕ) (t : List ℕ). wrote (accept k) (t ++ drop k out)) z (drop-of-length-le (textOf m) {i = 0} (omega arith))
 
   module _ (n : ℕ) where
     -- "N outside 1 to 64 is refusal 1, .. written bits at N or above 6, both tested first"
-    pub write-nodes-refused : nodesOk n ≡ false → writeText n m out ≡ answered (refuse 1) out
-    unfolding writeText writing writeDecision
+    pub write-nodes-refused : nodesOk n ≡ false → writeText n m out ≡ wrote (refuse 1) out
+    unfolding writeText writeDecision
     write-nodes-refused e = rw e
 
     -- bits at N or above
-    pub write-mask-refused : nodesOk n ≡ true → below n m ≡ false → writeText n m out ≡ answered (refuse 6) out
-    unfolding writeText writing writeDecision
+    pub write-mask-refused : nodesOk n ≡ true → below n m ≡ false → writeText n m out ≡ wrote (refuse 6) out
+    unfolding writeText writeDecision
     write-mask-refused e f = rw (e, f)
 
     -- else the text decides
-    pub write-text : nodesOk n ≡ true → below n m ≡ true → writeText n m out ≡ textWritten m out
-    unfolding writeText writing writeDecision textWritten
+    pub write-text : nodesOk n ≡ true → below n m ≡ true → writeText n m out ≡ written out (textOf m)
+    unfolding writeText writeDecision
     write-text e f = rw (e, f)

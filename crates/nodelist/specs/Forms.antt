@@ -3,7 +3,7 @@ use Prim.Native.Nat.{ℕ, _-_, _^_, _<_}
 use mathlib.Core.Bool.{cond}
 use mathlib.Core.Option.{Option, none, some}
 use Rattle.rules.specs.Masks.{allNodes}
-use Rattle.rules.specs.Calls.{Decision, refuse, accept}
+use Rattle.rules.specs.Decisions.{Decision, refuse, accept}
 use Rattle.rules.specs.Text.{Form, formOk, formMask}
 use Rattle.nodemask.specs.Ranks.{rankedIn}
 

@@ -1,4 +1,3 @@
 pub mod Reader
 pub mod Forms
 pub mod Writer
-pub mod Answers

@@ -2,12 +2,9 @@
 use mathlib.Core.Path.{_≡_}
 use Prim.Native.Nat.{ℕ, _+_, _-_, _≤_, _<_}
 use mathlib.Core.List.{List, [], _∷_}
-use lib.ListN.{length}
-use lib.Dec.{leb}
 use Rattle.rules.specs.Basics.{keep, each, from}
 use Rattle.rules.specs.Masks.{maskBits, has}
-use Rattle.rules.specs.Calls.{unless, accept}
-use Rattle.rules.specs.Text.{comma, Run, runs, runText, textOf, Written, writing}
+use Rattle.rules.specs.Text.{comma, Run, runs, runText}
 use Rattle.nodelist.specs.declared.writer.NextRun.{NextRun}
 use Rattle.nodelist.specs.declared.writer.NextRun.the-variants.{Run as Span, Nothing}
 
@@ -36,7 +33,3 @@ lineRun r = comma ∷ runText r
 -- all runs of a mask
 unfoldable pub lineOf : ℕ → List ℕ
 lineOf m = each lineRun (runsFrom m 0)
-
--- "11 output shorter than the text"; "It changes no output byte past the text"
-unfoldable pub textWritten : ℕ → List ℕ → Written
-textWritten m out = writing m out (unless (leb (length (textOf m)) (length out)) 11 (accept (length (textOf m))))

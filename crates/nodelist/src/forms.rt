@@ -8,11 +8,11 @@ ghost use Rattle.rules.specs.Masks.{maskBits, size};
 ghost use Rattle.rules.specs.Text.{allWord, formOf};
 ghost use Rattle.nodelist.specs.Reader.{itemsRead};
 ghost use Rattle.nodelist.specs.Forms.{exceptFor, rankedFor, formRead, decided};
-ghost use Rattle.nodelist.specs.Answers.{readingOf};
-use crate::Reading;
+ghost use Rattle.rules.specs.Answers.{decisionOf};
 use crate::reader::Items;
 use crate::reader::read_items;
 use nodemask::Mask;
+use rules::Decision;
 use rules::Refusal;
 
 // The text is the word `all`.
@@ -26,51 +26,51 @@ fn is_all(text: &[u8]) -> bool
 }
 
 // A text of items: the nodes named.
-fn read_plain(text: &[u8], nodes: usize) -> Reading
+fn read_plain(text: &[u8], nodes: usize) -> Decision
     requires { ⌜ nodes ≤ maskBits ⌝ }
-    ensures { λ r. ⌜ readingOf r ≡ decided (itemsRead nodes (now (text .entry))) ⌝ }
+    ensures { λ r. ⌜ decisionOf r ≡ decided (itemsRead nodes (now (text .entry))) ⌝ }
 {
     let items = read_items(text, nodes);
     match items {
-        Items::Named(named) => Reading::Nodes(named.nodes()),
-        Items::Bad => Reading::Refused(Refusal::BadText),
+        Items::Named(named) => Decision::Accept(named.nodes().0),
+        Items::Bad => Decision::Refuse(Refusal::BadText),
     }
 }
 
 // A text after `!`: all nodes below N not named.
-fn read_except(text: &[u8], nodes: usize) -> Reading
+fn read_except(text: &[u8], nodes: usize) -> Decision
     requires { do ⌜ (0 < (← ⟦text.len()⟧)) × (nodes ≤ maskBits) ⌝ }
-    ensures { λ r. ⌜ readingOf r ≡ decided (exceptFor nodes (itemsRead nodes (drop 1 (now (text .entry))))) ⌝ }
+    ensures { λ r. ⌜ decisionOf r ≡ decided (exceptFor nodes (itemsRead nodes (drop 1 (now (text .entry))))) ⌝ }
 {
     let items = read_items(&text[1..], nodes);
     match items {
-        Items::Named(named) => Reading::Nodes(named.nodes().others(nodes)),
-        Items::Bad => Reading::Refused(Refusal::BadText),
+        Items::Named(named) => Decision::Accept(named.nodes().others(nodes).0),
+        Items::Bad => Decision::Refuse(Refusal::BadText),
     }
 }
 
 // A text after `+`: the allowed nodes whose ranks are named.
-fn read_ranks(text: &[u8], allowed: Mask) -> Reading
+fn read_ranks(text: &[u8], allowed: Mask) -> Decision
     requires { do ⌜ 0 < (← ⟦text.len()⟧) ⌝ }
-    ensures { λ r. ⌜ readingOf r ≡ decided (rankedFor (allowed .0) (itemsRead (size maskBits (allowed .0)) (drop 1 (now (text .entry))))) ⌝ }
+    ensures { λ r. ⌜ decisionOf r ≡ decided (rankedFor (allowed .0) (itemsRead (size maskBits (allowed .0)) (drop 1 (now (text .entry))))) ⌝ }
 {
     let items = read_items(&text[1..], allowed.size() as usize);
     match items {
-        Items::Named(named) => Reading::Nodes(allowed.ranked(named.ranks())),
-        Items::Bad => Reading::Refused(Refusal::BadText),
+        Items::Named(named) => Decision::Accept(allowed.ranked(named.ranks()).0),
+        Items::Bad => Decision::Refuse(Refusal::BadText),
     }
 }
 
 // The nodes that a text names, by its form.
-pub fn read_form(nodes: usize, allowed: Mask, text: &[u8]) -> Reading
+pub fn read_form(nodes: usize, allowed: Mask, text: &[u8]) -> Decision
     requires { ⌜ (nodes ≤ maskBits) × (allowed .0 < 2 ^ nodes) ⌝ }
-    ensures { λ r. ⌜ readingOf r ≡ decided (formRead nodes (allowed .0) (formOf (now (text .entry)))) ⌝ }
+    ensures { λ r. ⌜ decisionOf r ≡ decided (formRead nodes (allowed .0) (formOf (now (text .entry)))) ⌝ }
 {
     if text.len() == 0 {
-        return Reading::Nodes(Mask::EMPTY);
+        return Decision::Accept(0);
     }
     if is_all(text) {
-        return Reading::Nodes(allowed);
+        return Decision::Accept(allowed.0);
     }
     let mark = text[0];
     if mark == b'!' {

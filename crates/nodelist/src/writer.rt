@@ -6,10 +6,12 @@ ghost use lib.ListN.{length, take};
 ghost use lib.Seq.{sets};
 ghost use Rattle.rules.specs.Masks.{maskBits};
 ghost use Rattle.rules.specs.Text.{decimal};
-ghost use Rattle.nodelist.specs.Writer.{FirstFrom, runOf, lineRun, lineOf, lineBytes, textWritten};
-ghost use Rattle.nodelist.specs.Answers.{written};
-use crate::Writing;
+ghost use Rattle.nodelist.specs.Writer.{FirstFrom, runOf, lineRun, lineOf, lineBytes};
+ghost use Rattle.rules.specs.Answers.{decisionOf};
+ghost use Rattle.rules.specs.Decisions.{wrote, written};
+ghost use Rattle.rules.specs.Text.{textOf};
 use nodemask::Mask;
+use rules::Decision;
 use rules::Node;
 use rules::Refusal;
 
@@ -87,17 +89,17 @@ fn put_runs(line: &mut [u8; 192], mask: Mask) -> usize
 }
 
 // The text of a mask put at the start of the output, if it fits there.
-pub fn write_text(mask: Mask, out: &mut [u8]) -> Writing
-    ensures { λ r. ⌜ written r (now (out .exit)) ≡ textWritten (mask .0) (now (out .entry)) ⌝ }
+pub fn write_text(mask: Mask, out: &mut [u8]) -> Decision
+    ensures { λ r. ⌜ wrote (decisionOf r) (now (out .exit)) ≡ written (now (out .entry)) (textOf (mask .0)) ⌝ }
 {
     let mut line = [0u8; 192];
     let len = put_runs(&mut line, mask);
     if len == 0 {
-        return Writing::Text(0);
+        return Decision::Accept(0);
     }
     if len - 1 > out.len() {
-        return Writing::Refused(Refusal::OutputTooShort);
+        return Decision::Refuse(Refusal::OutputTooShort);
     }
     let size = bytes::copy(&line[1..len], out);
-    Writing::Text(size)
+    Decision::Accept(size as u64)
 }

@@ -3,9 +3,11 @@
 ghost use mathlib.Core.Path.{_≡_};
 ghost use Prim.Native.Nat.{_-_, _^_, _<_, _≤_};
 ghost use Rattle.rules.specs.Basics.{first, keep, around};
+ghost use Rattle.rules.specs.Machine.{nodesOk};
 ghost use Rattle.rules.specs.Masks.{maskBits, has, isNone, below, allNodes, both, within, insert, rank, size, lowest, folded, remapped};
 ghost use Rattle.nodemask.specs.Found.{foundNode};
 ghost use Rattle.nodemask.specs.Ranks.{wrapped, ranksIn, rankedIn};
+use rules::MOST_NODES;
 use rules::Node;
 
 pub struct Mask(pub u64);
@@ -20,6 +22,13 @@ pub struct Ranks(pub u64);
 pub enum Found {
     At(Node),
     Nothing,
+}
+
+// "N nodes, 1 to 64": a mask has a bit for each.
+pub fn nodes_ok(nodes: usize) -> bool
+    ensures { λ r. ⌜ r ≡ nodesOk nodes ⌝ }
+{
+    (1 <= nodes) & (nodes <= MOST_NODES)
 }
 
 // The bits below n.

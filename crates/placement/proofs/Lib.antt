@@ -1,10 +1,4 @@
 pub mod Grants
-pub mod Orders
-pub mod Modes
-pub mod Searches
-pub mod Firsts
-pub mod Requests
-pub mod Tested
-pub mod Outcomes
-pub mod Releases
+pub mod Plans
 pub mod InOrder
+pub mod Requests

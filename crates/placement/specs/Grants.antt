@@ -1,61 +1,63 @@
--- Document 01, "The first node in the order with a free page grants its lowest free page": the page of one node.
-use Prim.Native.Nat.{ℕ, _≤_}
-use mathlib.Core.List.{List, [], _∷_, map}
+-- Document 01, "The first node in the order with a free page grants its lowest free page": what a search takes, and the page table after it.
+use Prim.Native.Nat.{ℕ, _+_, _*_, _^_, _≤_, _<_}
+use mathlib.Core.Path.{_≡_}
+use mathlib.Core.List.{List, [], _∷_}
 use mathlib.Core.Option.{Option, none, some}
-use lib.ListN.{length, getD, set}
-use lib.Dec.{eqb}
-use Rattle.rules.specs.Basics.{keep, first, from, sum}
-use Rattle.rules.specs.Machine.{pagesOf}
-use Rattle.rules.specs.SearchOrder.{Try, try}
-use Rattle.placement.specs.declared.grant.FreePage.{FreePage}
-use Rattle.placement.specs.declared.grant.FreePage.the-variants.{At, Full}
+use lib.ListN.{length, drop, set}
+use Rattle.rules.specs.Basics.{keep, sum}
+use Rattle.rules.specs.Masks.{maskBits, has}
+use Rattle.rules.specs.Records.{Record, Turn, mostJobs}
+use Rattle.rules.specs.SearchOrder.{Try, near, pickPage, chosen}
+use Rattle.records.specs.Jobs.{turnOf}
+use Rattle.placement.specs.Plans.{Plannable}
 use Rattle.placement.specs.declared.grant.Grant.{Grant}
-use Rattle.placement.specs.declared.grant.Grant.the-variants.{Taken, Nothing}
+use Rattle.placement.specs.declared.grant.Grant.the-variants.{Taken as TakenBy, Nothing}
 
--- "its lowest free page": of node n, if it has one
-unfoldable pub lowestFree : List ℕ → List ℕ → ℕ → Option ℕ
-lowestFree counts ledger n = first (keep (λ p. eqb (getD ledger p 1) 0) (pagesOf counts n))
-
--- the page that a node gives
-abbrev pub pageFound : FreePage → Option ℕ
-pageFound (At p) = some (p .0)
-pageFound Full = none
-
--- A grant: the node that serves, its page, and what the cursor field becomes.
-pub record Given : Type 0 where
+-- A grant: the node that serves, its page, and the turn that it leaves.
+pub record Taken : Type 0 where
   pub node : ℕ
   pub page : ℕ
-  pub cursor : ℕ
+  pub turn : Turn
 
--- the grant of a step whose node has this lowest free page, else that of the steps after it
-abbrev pub givenAt : Try → Option ℕ → Option Given → Option Given
-givenAt s none later = later
-givenAt s (some p) later = some (record { node = s .node; page = p; cursor = s .cursor })
+-- "grants its lowest free page": what job j takes by the try that is chosen
+abbrev pub taken : List ℕ → List ℕ → ℕ → Option Try → Option Taken
+taken counts ledger j none = none
+taken counts ledger j (some t) = some (record { node = t .node; page = pickPage counts ledger j (t .node); turn = t .turn })
 
--- "The first node in the order with a free page grants its lowest free page"
-unfoldable pub firstGiven : List ℕ → List ℕ → List Try → Option Given
-firstGiven counts ledger [] = none
-firstGiven counts ledger (s ∷ ss) = givenAt s (lowestFree counts ledger (s .node)) (firstGiven counts ledger ss)
-
--- the page table after a grant
-abbrev pub markGiven : List ℕ → Option Given → ℕ → List ℕ
-markGiven ledger none holder = ledger
-markGiven ledger (some g) holder = set ledger (g .page) holder
-
--- the steps of an order that stands in two arrays: nodes, and what the cursor field becomes
-abbrev pub stepOf : List ℕ → List ℕ → ℕ → Try
-stepOf nodes cursors i = try (getD cursors i 0) (getD nodes i 0)
-
-unfoldable pub stepsOf : List ℕ → List ℕ → ℕ → ℕ → List Try
-stepsOf nodes cursors i k = map (stepOf nodes cursors) (from i k)
+-- "A grant to job j writes j + 1 at its page in the ledger"
+abbrev pub marked : List ℕ → Option Taken → ℕ → List ℕ
+marked ledger none j = ledger
+marked ledger (some t) j = set ledger (t .page) (j + 1)
 
 -- what the code's enum says
-abbrev pub givenOf : Grant → Option Given
-givenOf (Taken n p c) = some (record { node = n .0; page = p .0; cursor = c })
-givenOf Nothing = none
+abbrev pub takenOf : Grant → Option Taken
+takenOf (TakenBy n p c) = some (record { node = n .0; page = p .0; turn = turnOf c })
+takenOf Nothing = none
 
--- the page counts are in order, and the page table has the pages
-pub record Fits (counts ledger : List ℕ) : Type 0 where
-  pub few : length counts ≤ 64
+-- What a search by some tries grants job j, and the page table after it.
+pub record Granted (counts ledger : List ℕ) (j : ℕ) (ts : List Try) (grant : Grant) (after : List ℕ) : Type 0 where
+  pub answer : takenOf grant ≡ taken counts ledger j (chosen counts ledger ts)
+  pub table : after ≡ marked ledger (takenOf grant) j
+
+-- "then the other allowed nodes at distance below 255 in row x ..": near(x) after x
+unfoldable pub beyond : ℕ → List ℕ → ℕ → ℕ → List ℕ
+beyond n distances set x = drop (length (keep (has set) (x ∷ []))) (near n distances set x)
+
+-- What a grant may count on: page counts in order, a page table that has the pages, and one of the jobs.
+pub record Ready (counts ledger : List ℕ) (j : ℕ) : Type 0 where
+  pub few : length counts ≤ maskBits
   pub pages : sum counts ≤ 1048576
   pub fits : sum counts ≤ length ledger
+  pub job : j < mostJobs
+
+-- What near(x) may count on: a distance table of n nodes, a set of them, and x one of them.
+pub record Nearable (n : ℕ) (distances : List ℕ) (set x : ℕ) : Type 0 where
+  pub square : length distances ≡ n * n
+  pub set-below : set < 2 ^ n
+  pub from-node : x < n
+
+-- What a request's search may count on.
+pub record Searchable (counts distances ledger : List ℕ) (limit : ℕ) (r : Record) (x j : ℕ) : Type 0 where
+  pub ready : Ready counts ledger j
+  pub square : length distances ≡ length counts * length counts
+  pub plannable : Plannable (length counts) limit r x

@@ -1,4 +1,3 @@
+pub mod Plans
 pub mod Grants
-pub mod Orders
-pub mod Searches
-pub mod Lent
+pub mod Admissions

@@ -1,90 +1,236 @@
-// The page of a node: its part of the page table, lent on to the page picker.
+// The search of a request: the first node in the order with a free page grants its lowest free page, which is marked.
 
-ghost use mathlib.Core.Option.{none};
+ghost use mathlib.Core.List.{[], _∷_, map};
 ghost use mathlib.Core.Path.{_≡_};
-ghost use Prim.Native.Nat.{ℕ, _-_, _≤_, _<_};
-ghost use lib.ListN.{length, getD};
-ghost use Rattle.rules.specs.Basics.{sum};
-ghost use Rattle.placement.specs.Grants.{Fits, pageFound, lowestFree, givenAt, firstGiven, markGiven, givenOf, stepsOf};
-ghost use Rattle.rules.specs.SearchOrder.{try};
-ghost use Rattle.pages.specs.FirstZero.{mark};
+ghost use Prim.Native.Nat.{_+_, _%_, _≤_, _<_};
+ghost use lib.ListN.{length};
+ghost use Rattle.rules.specs.Basics.{keep};
+ghost use Rattle.rules.specs.Masks.{has};
+ghost use Rattle.rules.specs.Records.{placesPerJob};
+ghost use Rattle.rules.specs.SearchOrder.{try, near, tried, plan, order};
+ghost use Rattle.records.specs.Jobs.{turnOf, jobOf};
+ghost use Rattle.placement.specs.Grants.{beyond, Ready, Nearable, Searchable, Granted};
+ghost use Rattle.placement.specs.Plans.{leaves, earlyTries, roundTries, walkTries};
+use super::plan::Plan;
+use super::plan::Walk;
 use machine;
+use nodemask::Mask;
 use pages;
 use pages::Found;
+use records::job::Job;
 use rules::Node;
+use rules::PLACES_PER_JOB;
 use rules::Page;
+use rules::Place;
 
-// A search order: the nodes to try, and for each what the cursor field becomes if it grants.
-pub struct Order {
-    pub nodes: [u8; 64],
-    pub cursors: [u8; 64],
-    pub len: usize,
-}
-
-impl Order {
-    pub const EMPTY: Order = Order {
-        nodes: [0; 64],
-        cursors: [0; 64],
-        len: 0,
-    };
-}
-
-// The node that serves, its page, and the new cursor field.
+// The node that serves, its page, and the cursor field that the grant leaves.
 pub enum Grant {
     Taken(Node, Page, u8),
     Nothing,
 }
 
-// The lowest free page of a node, if it has one.
-pub enum FreePage {
-    At(Page),
-    Full,
-}
-
-// Marks the lowest free page of a node with its holder's byte.
-pub fn take_page(counts: &[u32], pages: &mut [u8], node: Node, holder: u8) -> FreePage
-    requires { ⌜ Fits (now counts) (now pages) × (node .0 < length (now counts)) ⌝ }
-    ensures answer { λ r. ⌜ pageFound r ≡ lowestFree (now (counts .entry)) (now (pages .entry)) (node .0) ⌝ }
-    ensures table { λ r. ⌜ now (pages .exit) ≡ mark (now (pages .entry)) (pageFound r) holder ⌝ }
+// Grants the lowest free page of one node: its part of the page table, lent on to the page picker.
+fn grant_node(counts: &[u32], pages: &mut [u8], node: Node, cursor: u8, job: u8) -> Grant
+    requires { ⌜ Ready (now counts) (now pages) job × (node .0 < length (now counts)) ⌝ }
+    ensures { λ r. ⌜ Granted (now (counts .entry)) (now (pages .entry)) job (try (turnOf cursor) (node .0) ∷ []) r (now (pages .exit)) ⌝ }
 {
     let first = machine::first_page(counts, node);
     let start = first.0 as usize;
     let n = node.0 as usize;
     let end = start + (counts[n] as usize);
-    let found = pages::pick(&mut pages[start..end], holder);
+    let found = pages::pick(&mut pages[start..end], job + 1);
     match found {
-        Found::At(offset) => FreePage::At(offset.after(first)),
-        Found::Full => FreePage::Full,
+        Found::At(offset) => Grant::Taken(node, offset.after(first), cursor),
+        Found::Full => Grant::Nothing,
     }
 }
 
-// Grants the lowest free page of one node.
-pub fn grant_one(counts: &[u32], pages: &mut [u8], node: Node, cursor: u8, holder: u8) -> Grant
-    requires { ⌜ Fits (now counts) (now pages) × (node .0 < length (now counts)) ⌝ }
-    ensures answer { λ r. ⌜ givenOf r ≡ givenAt (try cursor (node .0)) (lowestFree (now (counts .entry)) (now (pages .entry)) (node .0)) none ⌝ }
-    ensures table { λ r. ⌜ now (pages .exit) ≡ markGiven (now (pages .entry)) (givenOf r) holder ⌝ }
+// Grants by one node, if it is one of the machine's and in the limit; else it is passed over.
+fn grant_place(
+    counts: &[u32],
+    pages: &mut [u8],
+    limit: Mask,
+    node: Node,
+    cursor: u8,
+    job: u8,
+) -> Grant
+    requires { ⌜ Ready (now counts) (now pages) job ⌝ }
+    ensures { λ r. ⌜ Granted (now (counts .entry)) (now (pages .entry)) job (tried (length (now (counts .entry))) (limit .0) (try (turnOf cursor) (node .0) ∷ [])) r (now (pages .exit)) ⌝ }
 {
-    let found = take_page(counts, pages, node, holder);
-    match found {
-        FreePage::At(page) => Grant::Taken(node, page, cursor),
-        FreePage::Full => Grant::Nothing,
+    if (node.0 as usize) < counts.len() {
+        if limit.has(node) {
+            return grant_node(counts, pages, node, cursor, job);
+        }
     }
+    Grant::Nothing
 }
 
-// Grants the lowest free page of the first node in the order, from a step on, that has one.
-pub fn grant_first(counts: &[u32], pages: &mut [u8], order: Order, from: usize, holder: u8) -> Grant
-    requires { ⌜ Fits (now counts) (now pages) × (order .len ≤ 64) × ((i : ℕ) → i < order .len → getD (order .nodes) i 0 < length (now counts)) ⌝ }
-    ensures answer { λ r. ⌜ givenOf r ≡ firstGiven (now (counts .entry)) (now (pages .entry)) (stepsOf (order .nodes) (order .cursors) from (order .len - from)) ⌝ }
-    ensures table { λ r. ⌜ now (pages .exit) ≡ markGiven (now (pages .entry)) (givenOf r) holder ⌝ }
+// ---- by near(x)
+
+// Where the nodes of near(x) other than x begin: x comes first, if it is in the set.
+fn others_from(set: Mask, x: Node) -> usize
+    ensures { λ r. ⌜ r ≡ length (keep (has (set .0)) (x .0 ∷ [])) ⌝ }
 {
-    let mut i = from;
+    if set.has(x) {
+        return 1;
+    }
+    0
+}
+
+// Grants by the nodes of near(x) other than x, in order.
+fn grant_others(
+    counts: &[u32],
+    distances: &[u8],
+    pages: &mut [u8],
+    set: Mask,
+    x: Node,
+    cursor: u8,
+    job: u8,
+) -> Grant
+    requires { ⌜ Ready (now counts) (now pages) job × Nearable (length (now counts)) (now distances) (set .0) (x .0) ⌝ }
+    ensures { λ r. ⌜ Granted (now (counts .entry)) (now (pages .entry)) job (map (try (turnOf cursor)) (beyond (length (now (counts .entry))) (now (distances .entry)) (set .0) (x .0))) r (now (pages .exit)) ⌝ }
+{
+    let order = machine::near(counts.len(), distances, set, x);
+    let mut i = others_from(set, x);
     while i < order.len {
-        let node = Node(order.nodes[i]);
-        let found = take_page(counts, pages, node, holder);
-        if let FreePage::At(page) = found {
-            return Grant::Taken(node, page, order.cursors[i]);
+        let found = grant_node(counts, pages, Node(order.nodes[i]), cursor, job);
+        if let Grant::Taken(node, page, left) = found {
+            return Grant::Taken(node, page, left);
         }
         i += 1;
     }
     Grant::Nothing
+}
+
+// Grants by near(x): x at once; the list of the others is built only where x is full or not in the set.
+fn grant_near(
+    counts: &[u32],
+    distances: &[u8],
+    pages: &mut [u8],
+    set: Mask,
+    x: Node,
+    cursor: u8,
+    job: u8,
+) -> Grant
+    requires { ⌜ Ready (now counts) (now pages) job × Nearable (length (now counts)) (now distances) (set .0) (x .0) ⌝ }
+    ensures { λ r. ⌜ Granted (now (counts .entry)) (now (pages .entry)) job (map (try (turnOf cursor)) (near (length (now (counts .entry))) (now (distances .entry)) (set .0) (x .0))) r (now (pages .exit)) ⌝ }
+{
+    let first = grant_place(counts, pages, set, x, cursor, job);
+    match first {
+        Grant::Taken(node, page, cursor) => Grant::Taken(node, page, cursor),
+        Grant::Nothing => grant_others(counts, distances, pages, set, x, cursor, job),
+    }
+}
+
+// ---- by places
+
+// The place at a position of a list, which starts again at its end.
+fn place_at(position: u8, len: u8) -> Place
+    requires { ⌜ (0 < len) × (position ≤ len) ⌝ }
+    ensures { λ r. ⌜ r .0 ≡ position % len ⌝ }
+{
+    if position < len {
+        return Place(position);
+    }
+    Place(0)
+}
+
+// The cursor field that a place leaves where it grants.
+fn cursor_after(walk: Walk, place: Place) -> u8
+    requires { ⌜ place .0 < placesPerJob ⌝ }
+    ensures { λ r. ⌜ turnOf r ≡ leaves (walk .moves) (turnOf (walk .cursor)) (place .0) ⌝ }
+{
+    if walk.moves {
+        return place.0 + 1;
+    }
+    walk.cursor
+}
+
+// Grants by the places from the cursor on, once round.
+fn grant_round(
+    counts: &[u32],
+    pages: &mut [u8],
+    limit: Mask,
+    places: [u8; PLACES_PER_JOB],
+    walk: Walk,
+    job: u8,
+) -> Grant
+    requires { ⌜ Ready (now counts) (now pages) job × (walk .len ≤ placesPerJob) × (walk .cursor ≤ walk .len) ⌝ }
+    ensures { λ r. ⌜ Granted (now (counts .entry)) (now (pages .entry)) job (tried (length (now (counts .entry))) (limit .0) (roundTries (walk .moves) places (turnOf (walk .cursor)) (walk .len) (walk .cursor) (walk .len))) r (now (pages .exit)) ⌝ }
+{
+    let mut position = walk.cursor;
+    let mut left = walk.len;
+    while 0 < left {
+        let place = place_at(position, walk.len);
+        let node = Node(places[place.0 as usize]);
+        let found = grant_place(counts, pages, limit, node, cursor_after(walk, place), job);
+        if let Grant::Taken(node, page, cursor) = found {
+            return Grant::Taken(node, page, cursor);
+        }
+        position = place.0 + 1;
+        left -= 1;
+    }
+    Grant::Nothing
+}
+
+// Grants by place 0 before the round, where the walk is early.
+fn grant_early(
+    counts: &[u32],
+    pages: &mut [u8],
+    limit: Mask,
+    places: [u8; PLACES_PER_JOB],
+    walk: Walk,
+    job: u8,
+) -> Grant
+    requires { ⌜ Ready (now counts) (now pages) job ⌝ }
+    ensures { λ r. ⌜ Granted (now (counts .entry)) (now (pages .entry)) job (tried (length (now (counts .entry))) (limit .0) (earlyTries walk places)) r (now (pages .exit)) ⌝ }
+{
+    if walk.early {
+        return grant_place(counts, pages, limit, Node(places[0]), walk.cursor, job);
+    }
+    Grant::Nothing
+}
+
+// Grants by places: no order is built.
+fn grant_places(
+    counts: &[u32],
+    pages: &mut [u8],
+    limit: Mask,
+    places: [u8; PLACES_PER_JOB],
+    walk: Walk,
+    job: u8,
+) -> Grant
+    requires { ⌜ Ready (now counts) (now pages) job × (walk .len ≤ placesPerJob) × (walk .cursor ≤ walk .len) ⌝ }
+    ensures { λ r. ⌜ Granted (now (counts .entry)) (now (pages .entry)) job (tried (length (now (counts .entry))) (limit .0) (walkTries walk places)) r (now (pages .exit)) ⌝ }
+{
+    let first = grant_early(counts, pages, limit, places, walk, job);
+    match first {
+        Grant::Taken(node, page, cursor) => Grant::Taken(node, page, cursor),
+        Grant::Nothing => grant_round(counts, pages, limit, places, walk, job),
+    }
+}
+
+// ---- by the plan
+
+// Grants a page to a well-formed job from a CPU on node x. `limit` is the set of nodes that the job may get.
+pub fn grant_page(
+    counts: &[u32],
+    distances: &[u8],
+    pages: &mut [u8],
+    limit: Mask,
+    decoded: Job,
+    x: Node,
+    job: u8,
+) -> Grant
+    requires { ⌜ Searchable (now counts) (now distances) (now pages) (limit .0) (jobOf decoded) (x .0) job ⌝ }
+    ensures { λ r. ⌜ Granted (now (counts .entry)) (now (pages .entry)) job (order (length (now (counts .entry))) (now (distances .entry)) (limit .0) (plan (limit .0) (jobOf decoded) (x .0))) r (now (pages .exit)) ⌝ }
+{
+    let places = decoded.places;
+    let plan = Plan::of(counts.len(), limit, decoded, x);
+    match plan {
+        Plan::Near(set, from, cursor) => {
+            grant_near(counts, distances, pages, set, from, cursor, job)
+        }
+        Plan::Places(walk) => grant_places(counts, pages, limit, places, walk, job),
+    }
 }

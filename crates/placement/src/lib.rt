@@ -2,39 +2,83 @@
 
 ghost use mathlib.Core.Bool.{true};
 ghost use mathlib.Core.Path.{_≡_};
-ghost use Prim.Native.Nat.{_<_, _^_};
-ghost use lib.ListN.{length, getD};
-ghost use Rattle.rules.specs.Calls.{Tables, requestTablesOk, onRequest};
-ghost use Rattle.rules.specs.Replies.{answerOf};
+ghost use Rattle.rules.specs.Records.{recordAt};
+ghost use Rattle.rules.specs.Calls.{tablesOf, outcome, requestTablesOk, releaseTablesOk, admitted, onRequest, onRelease};
+ghost use Rattle.rules.specs.Answers.{answerOf};
 ghost use Rattle.machine.specs.Tables.{machineOf};
-ghost use Rattle.placement.specs.Lent.{tablesOf, Did};
+ghost use Rattle.placement.specs.Admissions.{admissionOf};
 use grant::Grant;
 use machine;
 use records::table;
+use rules::Answer;
 use rules::Node;
 use rules::Page;
 use rules::Refusal;
-use rules::Reply;
 
 pub mod grant;
-pub mod order;
-pub mod release;
-pub mod search;
+pub mod plan;
+
+// ---- refusal 1
 
 // Are all tables that a request is lent in order?
 pub fn request_tables_ok(
     counts: &[u32],
     cpus: &[u8],
     distances: &[u8],
-    bytes: usize,
-    words: usize,
+    pages: &[u8],
+    jobs: &[u64],
 ) -> bool
-    ensures { λ r. ⌜ ((t : Tables) → length (t .ledger) ≡ bytes → length (t .records) ≡ words → r ≡ requestTablesOk (machineOf (now (counts .entry)) (now (cpus .entry)) (now (distances .entry))) t) ⌝ }
+    ensures { λ r. ⌜ r ≡ requestTablesOk (machineOf (now (counts .entry)) (now (cpus .entry)) (now (distances .entry))) (tablesOf (now (pages .entry)) (now (jobs .entry))) ⌝ }
 {
     if !machine::machine_ok(counts, cpus, distances) {
         return false;
     }
-    machine::page_table_ok(counts, bytes) & table::tables_ok(counts.len(), words)
+    machine::page_table_ok(counts, pages.len()) & table::tables_ok(counts.len(), jobs.len())
+}
+
+// Are all tables that a release is lent in order?
+pub fn release_tables_ok(counts: &[u32], pages: &[u8], jobs: &[u64]) -> bool
+    ensures { λ r. ⌜ r ≡ releaseTablesOk (now (counts .entry)) (tablesOf (now (pages .entry)) (now (jobs .entry))) ⌝ }
+{
+    if !machine::page_counts_ok(counts) {
+        return false;
+    }
+    machine::page_table_ok(counts, pages.len()) & table::tables_ok(counts.len(), jobs.len())
+}
+
+// ---- request
+
+// What a request's tests before the search come to.
+pub enum Admission {
+    Passed,
+    Refused(Refusal),
+}
+
+// "Order: request 1, 2, 3, 4": the tests before the search, on tables that are in order.
+pub fn admit(
+    counts: &[u32],
+    cpus: &[u8],
+    distances: &[u8],
+    pages: &[u8],
+    jobs: &[u64],
+    job: usize,
+    cpu: usize,
+) -> Admission
+    requires { ⌜ requestTablesOk (machineOf (now counts) (now cpus) (now distances)) (tablesOf (now pages) (now jobs)) ≡ true ⌝ }
+    ensures { λ r. ⌜ admissionOf r (recordAt (now (jobs .entry)) job) ≡ admitted (machineOf (now (counts .entry)) (now (cpus .entry)) (now (distances .entry))) (tablesOf (now (pages .entry)) (now (jobs .entry))) job cpu ⌝ }
+{
+    let known = table::has_job(jobs.len(), job);
+    if !known {
+        return Admission::Refused(Refusal::NoSuchJob);
+    }
+    if cpu >= cpus.len() {
+        return Admission::Refused(Refusal::NoSuchCpu);
+    }
+    let record = table::load(jobs, job);
+    if !record.well_formed(counts.len()) {
+        return Admission::Refused(Refusal::MalformedRecord);
+    }
+    Admission::Passed
 }
 
 // A request on tables that are in order.
@@ -46,37 +90,24 @@ pub fn request_at(
     jobs: &mut [u64],
     job: usize,
     cpu: usize,
-) -> Reply
+) -> Answer
     requires { ⌜ requestTablesOk (machineOf (now counts) (now cpus) (now distances)) (tablesOf (now pages) (now jobs)) ≡ true ⌝ }
-    ensures { λ r. ⌜ Did (onRequest (machineOf (now (counts .entry)) (now (cpus .entry)) (now (distances .entry))) (tablesOf (now (pages .entry)) (now (jobs .entry))) job cpu) (answerOf r) (now (pages .exit)) (now (jobs .exit)) ⌝ }
+    ensures { λ r. ⌜ outcome (answerOf r) (tablesOf (now (pages .exit)) (now (jobs .exit))) ≡ onRequest (machineOf (now (counts .entry)) (now (cpus .entry)) (now (distances .entry))) (tablesOf (now (pages .entry)) (now (jobs .entry))) job cpu ⌝ }
 {
-    if job >= jobs.len() / 6 {
-        return Reply::Refused(Refusal::NoSuchJob);
+    let admission = admit(counts, cpus, distances, pages, jobs, job, cpu);
+    if let Admission::Refused(why) = admission {
+        return Answer::Refused(why);
     }
-    if cpu >= cpus.len() {
-        return Reply::Refused(Refusal::NoSuchCpu);
-    }
-    let nodes = counts.len();
     let record = table::load(jobs, job);
-    if !record.well_formed(nodes) {
-        return Reply::Refused(Refusal::MalformedRecord);
-    }
     let limit = record.allowed;
-    let grant = search::grant_page(
-        counts,
-        distances,
-        pages,
-        limit,
-        record.job(),
-        Node(cpus[cpu]),
-        (job + 1) as u8,
-    );
+    let x = Node(cpus[cpu]);
+    let grant = grant::grant_page(counts, distances, pages, limit, record.job(), x, job as u8);
     match grant {
         Grant::Taken(node, page, cursor) => {
             table::store_cursor(jobs, job, cursor);
-            Reply::Granted(node, page)
+            Answer::Granted(node, page)
         }
-        Grant::Nothing => Reply::Refused(Refusal::NoRoom),
+        Grant::Nothing => Answer::Refused(Refusal::NoRoom),
     }
 }
 
@@ -89,11 +120,43 @@ pub fn request(
     jobs: &mut [u64],
     job: usize,
     cpu: usize,
-) -> Reply
-    ensures { λ r. ⌜ Did (onRequest (machineOf (now (counts .entry)) (now (cpus .entry)) (now (distances .entry))) (tablesOf (now (pages .entry)) (now (jobs .entry))) job cpu) (answerOf r) (now (pages .exit)) (now (jobs .exit)) ⌝ }
+) -> Answer
+    ensures { λ r. ⌜ outcome (answerOf r) (tablesOf (now (pages .exit)) (now (jobs .exit))) ≡ onRequest (machineOf (now (counts .entry)) (now (cpus .entry)) (now (distances .entry))) (tablesOf (now (pages .entry)) (now (jobs .entry))) job cpu ⌝ }
 {
-    if !request_tables_ok(counts, cpus, distances, pages.len(), jobs.len()) {
-        return Reply::Refused(Refusal::BadTables);
+    if !request_tables_ok(counts, cpus, distances, pages, jobs) {
+        return Answer::Refused(Refusal::BadTables);
     }
     request_at(counts, cpus, distances, pages, jobs, job, cpu)
+}
+
+// ---- release
+
+// A release on tables that are in order: one byte is written, after the last test.
+pub fn release_at(counts: &[u32], pages: &mut [u8], jobs: &[u64], job: usize, page: usize) -> Answer
+    requires { ⌜ releaseTablesOk (now counts) (tablesOf (now pages) (now jobs)) ≡ true ⌝ }
+    ensures { λ r. ⌜ outcome (answerOf r) (tablesOf (now (pages .exit)) (now (jobs .entry))) ≡ onRelease (now (counts .entry)) (tablesOf (now (pages .entry)) (now (jobs .entry))) job page ⌝ }
+{
+    if !table::has_job(jobs.len(), job) {
+        return Answer::Refused(Refusal::NoSuchJob);
+    }
+    if page >= machine::total_pages(counts) {
+        return Answer::Refused(Refusal::NotHeld);
+    }
+    let holder = pages[page];
+    if holder as usize != job + 1 {
+        return Answer::Refused(Refusal::NotHeld);
+    }
+    pages[page] = 0;
+    let free = Page(page as u32);
+    Answer::Released(machine::node_of_page(counts, free), free)
+}
+
+// Release: a page that the job holds becomes free.
+pub fn release(counts: &[u32], pages: &mut [u8], jobs: &[u64], job: usize, page: usize) -> Answer
+    ensures { λ r. ⌜ outcome (answerOf r) (tablesOf (now (pages .exit)) (now (jobs .entry))) ≡ onRelease (now (counts .entry)) (tablesOf (now (pages .entry)) (now (jobs .entry))) job page ⌝ }
+{
+    if !release_tables_ok(counts, pages, jobs) {
+        return Answer::Refused(Refusal::BadTables);
+    }
+    release_at(counts, pages, jobs, job, page)
 }

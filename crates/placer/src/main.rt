@@ -3,24 +3,23 @@
 
 ghost use mathlib.Core.Path.{_≡_};
 ghost use lib.ListN.{length};
-ghost use Rattle.rules.specs.Calls.{accept};
-ghost use Rattle.rules.specs.Journal.{machineSize};
-ghost use Rattle.journal.specs.Enums.{verdict};
+ghost use Rattle.rules.specs.Decisions.{accept};
+ghost use Rattle.rules.specs.Journal.{machineSize, opening};
 ghost use Rattle.placer.specs.Parts.{AtMost};
 use journal::answer;
 use journal::opening;
-use journal::opening::Opening;
-use journal::reading;
+use journal::opening::LONGEST;
+use rules::Decision;
 use stdio::Got;
 
 mod part;
 mod stdio;
 
-// The longest machine record, in zeros: 16 nodes and 64 CPUs.
-fn opening_buffer() -> [u8; 358]
+// Room for the longest machine record, in zeros.
+fn opening_buffer() -> [u8; LONGEST]
     ensures { λ r. ⌜ 358 ≡ length r ⌝ }
 {
-    [0; 358]
+    [0; LONGEST]
 }
 
 // Reads the machine record: its six head bytes, and as many more as these say; fewer at the end of input.
@@ -48,17 +47,11 @@ fn read_opening(bytes: &mut [u8]) -> Got
 
 // The records after a good machine record, on free pages and fresh jobs.
 fn answer_records(bytes: &[u8])
-    requires { ⌜ verdict (now bytes) ≡ accept (machineSize (now bytes)) ⌝ }
+    requires { ⌜ opening (now bytes) ≡ accept (machineSize (now bytes)) ⌝ }
 {
-    let n = reading::byte_at(bytes, 3);
-    let all = opening::page_counts(bytes);
-    let counts = &all[..n];
-    let total = machine::total_pages(counts);
     let mut pages = journal::free_pages();
     let mut jobs = journal::fresh_jobs();
-    let cpus = opening::cpu_bytes(bytes);
-    let distances = opening::distance_bytes(bytes);
-    part::answer_parts(counts, cpus, distances, &mut pages[..total], &mut jobs);
+    part::answer_parts(bytes, &mut pages, &mut jobs);
 }
 
 // A read that fails ends the run, and is never answered as a damaged journal.
@@ -70,9 +63,9 @@ fn main() {
     let bytes = &buffer[..n];
     let found = opening::verdict(bytes);
     match found {
-        Opening::Good(_) => answer_records(bytes),
-        Opening::Faulty(refusal) => {
-            let fault = answer::fault_bytes(refusal);
+        Decision::Accept(_) => answer_records(bytes),
+        Decision::Refuse(refusal) => {
+            let fault = answer::fault(refusal);
             stdio::write_all(&fault);
         }
     }

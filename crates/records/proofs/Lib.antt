@@ -1,5 +1,6 @@
-pub mod Shifts
 pub mod Numbers
+pub mod Tests
 pub mod Decoded
-pub mod Stored
-pub mod Ways
+pub mod Filled
+pub mod Shifts
+pub mod Judged

@@ -1,16 +1,41 @@
--- What the decoded job and the fields of a record stand for in the rules (document 01, "A job's record").
-use Prim.Native.Nat.{ℕ, zero, suc}
+-- What the code's policy, record and decoded job stand for in the rules (document 01, "A job's record").
+use Prim.Native.Nat.{ℕ}
+use mathlib.Core.Path.{_≡_}
 use mathlib.Core.List as Lists
-use Rattle.rules.specs.Records.{Job as Record, Carries as CarriesLaw, nothing, aMask, aList, unknown}
+use mathlib.Core.List.{_++_}
+use lib.ListN.{length, take, replicate}
+use Rattle.rules.specs.Records.{Carries as Holds, nothing, aMask, aList, unknown, Cursor as CursorIs, noCursor, aNode, aPlace, Row as LawRow}
+use Rattle.rules.specs.Records.{placesPerJob, Policy as Asked, policy, Turn, Record as LawRecord}
 use Rattle.nodemask.specs.declared.Mask.{Mask}
+use Rattle.records.specs.declared.record.Carries.{Carries}
+use Rattle.records.specs.declared.record.Carries.the-variants.{Nothing, AMask, AList, Unknown}
+use Rattle.records.specs.declared.record.Cursor.{Cursor}
+use Rattle.records.specs.declared.record.Cursor.the-variants.{NoCursor, ANode, APlace}
+use Rattle.records.specs.declared.record.Row.{Row}
 use Rattle.records.specs.declared.job.Flag.{Flag}
 use Rattle.records.specs.declared.job.Flag.the-variants.{Plain, Static, Relative}
 use Rattle.records.specs.declared.job.Mode.{Mode}
 use Rattle.records.specs.declared.job.Mode.the-variants.{Default, Preferred, Bind, Interleave, List, Ring, Early}
 use Rattle.records.specs.declared.job.Job.{Job}
-use Rattle.records.specs.declared.fields.Fields.{Fields}
-use Rattle.records.specs.declared.fields.Carries.{Carries}
-use Rattle.records.specs.declared.fields.Carries.the-variants.{Nothing, Masks, Places, Unknown}
+use Rattle.records.specs.declared.policy.Policy.{Policy}
+use Rattle.records.specs.declared.record.Record.{Record}
+
+-- The table "Mode | Carries": what a mode carries
+abbrev pub holdsIn : Carries → Holds
+holdsIn Nothing = nothing
+holdsIn AMask = aMask
+holdsIn AList = aList
+holdsIn Unknown = unknown
+
+-- "The cursor is the last target node (mode 3) or the last place (modes 5, 6)"
+abbrev pub cursorIn : Cursor → CursorIs
+cursorIn NoCursor = noCursor
+cursorIn ANode = aNode
+cursorIn APlace = aPlace
+
+-- a row of the table
+abbrev pub rowIn : Row → LawRow
+rowIn r = record { holds = holdsIn (r .0); cursor = cursorIn (r .1) }
 
 -- "Flags: 0 none, 1 static, 2 relative"
 abbrev pub flagNumber : Flag → ℕ
@@ -18,118 +43,84 @@ flagNumber Plain = 0
 flagNumber Static = 1
 flagNumber Relative = 2
 
--- The table "Mode | Carries": the number of a mode
-abbrev pub modeNumber : Mode → ℕ
-modeNumber Default = 0
-modeNumber (Preferred f u e) = 1
-modeNumber (Bind f u e) = 2
-modeNumber (Interleave f u e c) = 3
-modeNumber (List l) = 4
-modeNumber (Ring l c) = 5
-modeNumber (Early l c) = 6
+-- The fields of a record that go by its mode. "Each mode carries its own data and nothing of another's": what it does not carry is zero
+pub record Carried : Type 0 where
+  pub mode : ℕ
+  pub flag : ℕ
+  pub len : ℕ
+  pub cursor : ℕ
+  pub user : ℕ
+  pub effective : ℕ
 
--- "Each mode carries its own data and nothing of another's": a field that it does not carry is zero. The flag
-abbrev pub flagIn : Mode → ℕ
-flagIn Default = 0
-flagIn (Preferred f u e) = flagNumber f
-flagIn (Bind f u e) = flagNumber f
-flagIn (Interleave f u e c) = flagNumber f
-flagIn (List l) = 0
-flagIn (Ring l c) = 0
-flagIn (Early l c) = 0
+-- these fields, put together
+abbrev pub carried : ℕ → ℕ → ℕ → ℕ → ℕ → ℕ → Carried
+carried mode flag len cursor user effective =
+    record { mode = mode; flag = flag; len = len; cursor = cursor; user = user; effective = effective }
 
--- the list length
-abbrev pub lenIn : Mode → ℕ
-lenIn Default = 0
-lenIn (Preferred f u e) = 0
-lenIn (Bind f u e) = 0
-lenIn (Interleave f u e c) = 0
-lenIn (List l) = l
-lenIn (Ring l c) = l
-lenIn (Early l c) = l
+-- flag and masks, and a cursor
+abbrev pub masks : ℕ → Flag → Mask → Mask → ℕ → Carried
+masks mode flag user effective cursor = carried mode (flagNumber flag) 0 cursor (user .0) (effective .0)
 
--- the cursor field
-abbrev pub cursorIn : Mode → ℕ
-cursorIn Default = 0
-cursorIn (Preferred f u e) = 0
-cursorIn (Bind f u e) = 0
-cursorIn (Interleave f u e c) = c
-cursorIn (List l) = 0
-cursorIn (Ring l c) = c
-cursorIn (Early l c) = c
+-- a list length, and a cursor
+abbrev pub listed : ℕ → ℕ → ℕ → Carried
+listed mode len cursor = carried mode 0 len cursor 0 0
 
--- the user mask
-abbrev pub userIn : Mode → ℕ
-userIn Default = 0
-userIn (Preferred f u e) = u .0
-userIn (Bind f u e) = u .0
-userIn (Interleave f u e c) = u .0
-userIn (List l) = 0
-userIn (Ring l c) = 0
-userIn (Early l c) = 0
+-- The table "Mode | Carries": what a decoded mode carries
+abbrev pub carriedIn : Mode → Carried
+carriedIn Default = listed 0 0 0
+carriedIn (Preferred f u e) = masks 1 f u e 0
+carriedIn (Bind f u e) = masks 2 f u e 0
+carriedIn (Interleave f u e c) = masks 3 f u e c
+carriedIn (List l) = listed 4 l 0
+carriedIn (Ring l c) = listed 5 l c
+carriedIn (Early l c) = listed 6 l c
 
--- the effective mask
-abbrev pub effectiveIn : Mode → ℕ
-effectiveIn Default = 0
-effectiveIn (Preferred f u e) = e .0
-effectiveIn (Bind f u e) = e .0
-effectiveIn (Interleave f u e c) = e .0
-effectiveIn (List l) = 0
-effectiveIn (Ring l c) = 0
-effectiveIn (Early l c) = 0
+-- a cursor field, and zeros above it
+abbrev pub turnOf : ℕ → Turn
+turnOf cursor = record { cursor = cursor; rest = 0 }
 
--- a decoded job of its parts
-abbrev pub jobWith : Mode → Mask → Lists.List ℕ → Job
-jobWith m allowed places = record { mode = m; allowed = allowed; places = places }
+-- the record of what goes by the mode, an allowed mask and sixteen places
+unfoldable pub recordWith : Carried → ℕ → Lists.List ℕ → LawRecord
+recordWith c allowed places = record {
+  mode = c .mode;
+  flag = c .flag;
+  len = c .len;
+  turn = turnOf (c .cursor);
+  user = c .user;
+  allowed = allowed;
+  effective = c .effective;
+  bytes = places;
+}
 
 -- the record of a decoded job
-unfoldable pub jobOf : Job → Record
-jobOf j = record {
-  mode = modeNumber (j .mode);
-  flag = flagIn (j .mode);
-  len = lenIn (j .mode);
-  cursor = cursorIn (j .mode);
-  rest = 0;
-  user = userIn (j .mode);
-  allowed = j .allowed .0;
-  effective = effectiveIn (j .mode);
-  bytes = j .places;
+unfoldable pub jobOf : Job → LawRecord
+jobOf j = recordWith (carriedIn (j .mode)) (j .allowed .0) (j .places)
+
+-- the record of the code's fields
+unfoldable pub recordOf : Record → LawRecord
+recordOf r = record {
+  mode = r .mode;
+  flag = r .flag;
+  len = r .len;
+  turn = record { cursor = r .cursor; rest = r .rest };
+  user = r .user .0;
+  allowed = r .allowed .0;
+  effective = r .effective .0;
+  bytes = r .places;
 }
 
--- the record of its fields
-unfoldable pub recordOf : Fields → Record
-recordOf f = record {
-  mode = f .mode;
-  flag = f .flag;
-  len = f .len;
-  cursor = f .cursor;
-  rest = f .rest;
-  user = f .user .0;
-  allowed = f .allowed .0;
-  effective = f .effective .0;
-  bytes = f .places;
-}
+-- what goes by the mode, of a record
+abbrev pub carriedOf : LawRecord → Carried
+carriedOf r = carried (r .mode) (r .flag) (r .len) (r .turn .cursor) (r .user) (r .effective)
 
--- the flag of a known number
-abbrev pub flagFrom : ℕ → Flag
-flagFrom zero = Plain
-flagFrom (suc zero) = Static
-flagFrom (suc (suc n)) = Relative
+-- what the code's policy asks for, with these places
+abbrev pub asked : Policy → Lists.List ℕ → Asked
+asked c places = policy (c .mode) (c .flag) (c .user .0) places
 
--- the mode of a known number, with what it carries of some fields
-abbrev pub modeFrom : ℕ → Flag → Mask → Mask → ℕ → ℕ → Mode
-modeFrom zero f u e l c = Default
-modeFrom (suc zero) f u e l c = Preferred f u e
-modeFrom (suc (suc zero)) f u e l c = Bind f u e
-modeFrom (suc (suc (suc zero))) f u e l c = Interleave f u e c
-modeFrom (suc (suc (suc (suc zero)))) f u e l c = List l
-modeFrom (suc (suc (suc (suc (suc zero))))) f u e l c = Ring l c
-modeFrom (suc (suc (suc (suc (suc (suc zero)))))) f u e l c = Early l c
-modeFrom (suc (suc (suc (suc (suc (suc (suc n))))))) f u e l c = Default
-
--- The table "Mode | Carries": what the code's enum stands for
-abbrev pub carriesOf : Carries → CarriesLaw
-carriesOf Nothing = nothing
-carriesOf Masks = aMask
-carriesOf Places = aList
-carriesOf Unknown = unknown
+-- The code's policy asks for p: it has the number of the places, the first sixteen of them, and zeros past their end
+pub record Asks (c : Policy) (p : Asked) : Type 0 where
+  pub mode : p .mode ≡ c .mode
+  pub flag : p .flag ≡ c .flag
+  pub user : p .user ≡ c .user .0
+  pub len : length (p .places) ≡ c .len
+  pub places : take placesPerJob (p .places ++ replicate placesPerJob 0) ≡ c .places

@@ -1,15 +1,14 @@
 // A decoded job: each mode carries its own data and nothing of another's.
 
-ghost use mathlib.Core.Path.{_≡_};
 ghost use mathlib.Core.Bool.{true};
 ghost use mathlib.Core.List.{List};
-ghost use Prim.Native.Nat.{ℕ, _+_, _*_, _^_, _<_, _≤_};
-ghost use lib.ListN.{length};
-ghost use Rattle.rules.specs.Records.{Job as Record, placesPerJob, flagOf, fresh, wellFormed, installed, effectiveAtInstall, rebound, effectiveAtRebind};
-ghost use Rattle.rules.specs.Calls.{rebindFits};
-ghost use Rattle.records.specs.Jobs.{flagNumber, modeNumber, flagIn, lenIn, cursorIn, userIn, effectiveIn, jobOf, jobWith, flagFrom, modeFrom};
-use super::words;
+ghost use mathlib.Core.Path.{_≡_};
+ghost use Prim.Native.Nat.{ℕ, _<_};
+ghost use Rattle.rules.specs.Records.{flagOf, fresh, flagKnown, wellFormed, effectiveAtInstall, rebound};
+ghost use Rattle.records.specs.Jobs.{flagNumber, carried, masks, carriedIn, carriedOf, recordWith, jobOf, recordOf};
+use super::record::Record;
 use nodemask::Mask;
+use rules::PLACES_PER_JOB;
 
 // "Flags: 0 none, 1 static, 2 relative"
 pub enum Flag {
@@ -18,8 +17,7 @@ pub enum Flag {
     Relative,
 }
 
-// Preferred, bind and interleave carry flag, user mask and effective mask, interleave its cursor field too; list, ring and early
-// carry the list length, ring and early their cursor field too.
+// Preferred, bind and interleave carry flag, user mask and effective mask; list, ring and early the list length; a cursor field is last.
 pub enum Mode {
     Default,
     Preferred(Flag, Mask, Mask),
@@ -34,13 +32,13 @@ pub enum Mode {
 pub struct Job {
     pub mode: Mode,
     pub allowed: Mask,
-    pub places: [u8; 16],
+    pub places: [u8; PLACES_PER_JOB],
 }
 
 impl Flag {
     // The flag of a known number.
     pub fn of(number: u8) -> Flag
-        ensures { λ r. ⌜ r ≡ flagFrom number ⌝ }
+        ensures { λ r. ⌜ (flagKnown (flagOf number) ≡ true → flagNumber r ≡ number) ⌝ }
     {
         match number {
             0 => Flag::Plain,
@@ -50,7 +48,7 @@ impl Flag {
     }
 
     // The number of the flag.
-    pub fn number(self) -> u8
+    fn number(self) -> u8
         ensures { λ r. ⌜ r ≡ flagNumber self ⌝ }
     {
         match self {
@@ -73,9 +71,9 @@ impl Flag {
     }
 
     // "flag 0 remaps the effective mask, static takes user and allowed, relative folds afresh"
-    pub fn rebound(self, user: Mask, effective: Mask, old: Mask, new: Mask) -> Mask
+    fn rebound(self, user: Mask, effective: Mask, old: Mask, new: Mask) -> Mask
         requires { ⌜ 0 < new .0 ⌝ }
-        ensures { λ r. ⌜ ((x : Record) → x .user ≡ user .0 → x .effective ≡ effective .0 → x .allowed ≡ old .0 → r .0 ≡ effectiveAtRebind (flagOf (flagNumber self)) x (new .0)) ⌝ }
+        ensures { λ r. ⌜ ((n c : ℕ) (ps : List ℕ) → recordWith (masks n self user r c) (new .0) ps ≡ rebound (recordWith (masks n self user effective c) (old .0) ps) (new .0)) ⌝ }
     {
         match self {
             Flag::Plain => effective.remapped(old, new),
@@ -86,85 +84,29 @@ impl Flag {
 }
 
 impl Mode {
-    // The mode of a known number, with what it carries of the fields.
-    pub fn of(number: u8, flag: Flag, user: Mask, effective: Mask, len: u8, cursor: u8) -> Mode
-        ensures { λ r. ⌜ r ≡ modeFrom number flag user effective len cursor ⌝ }
+    // The mode of a well-formed record.
+    pub fn of(from: Record) -> Mode
+        ensures { λ r. ⌜ ((n : ℕ) → wellFormed n (recordOf from) ≡ true → carriedIn r ≡ carriedOf (recordOf from)) ⌝ }
     {
+        let number = from.mode;
+        let flag = Flag::of(from.flag);
+        let user = from.user;
+        let effective = from.effective;
         match number {
             1 => Mode::Preferred(flag, user, effective),
             2 => Mode::Bind(flag, user, effective),
-            3 => Mode::Interleave(flag, user, effective, cursor),
-            4 => Mode::List(len),
-            5 => Mode::Ring(len, cursor),
-            6 => Mode::Early(len, cursor),
+            3 => Mode::Interleave(flag, user, effective, from.cursor),
+            4 => Mode::List(from.len),
+            5 => Mode::Ring(from.len, from.cursor),
+            6 => Mode::Early(from.len, from.cursor),
             _ => Mode::Default,
         }
     }
 
-    // Word 0 of a record in this mode.
-    pub fn head(self) -> u64
-        ensures { λ r. ⌜ r ≡ modeNumber self + flagIn self * 2 ^ 8 + lenIn self * 2 ^ 16 + cursorIn self * 2 ^ 24 ⌝ }
-    {
-        match self {
-            Mode::Default => words::head(0, 0, 0, 0),
-            Mode::Preferred(flag, _, _) => words::head(1, flag.number(), 0, 0),
-            Mode::Bind(flag, _, _) => words::head(2, flag.number(), 0, 0),
-            Mode::Interleave(flag, _, _, cursor) => words::head(3, flag.number(), 0, cursor),
-            Mode::List(len) => words::head(4, 0, len, 0),
-            Mode::Ring(len, cursor) => words::head(5, 0, len, cursor),
-            Mode::Early(len, cursor) => words::head(6, 0, len, cursor),
-        }
-    }
-
-    // The number of the flag that the mode carries, else 0.
-    pub fn flag(self) -> u8
-        ensures { λ r. ⌜ r ≡ flagIn self ⌝ }
-    {
-        match self {
-            Mode::Default => 0,
-            Mode::Preferred(flag, _, _) => flag.number(),
-            Mode::Bind(flag, _, _) => flag.number(),
-            Mode::Interleave(flag, _, _, _) => flag.number(),
-            Mode::List(_) => 0,
-            Mode::Ring(_, _) => 0,
-            Mode::Early(_, _) => 0,
-        }
-    }
-
-    // The user mask that the mode carries, else none.
-    pub fn user(self) -> Mask
-        ensures { λ r. ⌜ r .0 ≡ userIn self ⌝ }
-    {
-        match self {
-            Mode::Default => Mask::EMPTY,
-            Mode::Preferred(_, user, _) => user,
-            Mode::Bind(_, user, _) => user,
-            Mode::Interleave(_, user, _, _) => user,
-            Mode::List(_) => Mask::EMPTY,
-            Mode::Ring(_, _) => Mask::EMPTY,
-            Mode::Early(_, _) => Mask::EMPTY,
-        }
-    }
-
-    // The effective mask that the mode carries, else none.
-    pub fn effective(self) -> Mask
-        ensures { λ r. ⌜ r .0 ≡ effectiveIn self ⌝ }
-    {
-        match self {
-            Mode::Default => Mask::EMPTY,
-            Mode::Preferred(_, _, effective) => effective,
-            Mode::Bind(_, _, effective) => effective,
-            Mode::Interleave(_, _, effective, _) => effective,
-            Mode::List(_) => Mask::EMPTY,
-            Mode::Ring(_, _) => Mask::EMPTY,
-            Mode::Early(_, _) => Mask::EMPTY,
-        }
-    }
-
     // The mode once the allowed nodes are others: the cursor stays.
-    pub fn rebound(self, old: Mask, new: Mask) -> Mode
+    fn rebound(self, old: Mask, new: Mask) -> Mode
         requires { ⌜ 0 < new .0 ⌝ }
-        ensures { λ r. ⌜ ((ps : List ℕ) → jobOf (jobWith r new ps) ≡ rebound (jobOf (jobWith self old ps)) (new .0)) ⌝ }
+        ensures { λ r. ⌜ ((ps : List ℕ) → recordWith (carriedIn r) (new .0) ps ≡ rebound (recordWith (carriedIn self) (old .0) ps) (new .0)) ⌝ }
     {
         match self {
             Mode::Default => Mode::Default,
@@ -189,7 +131,7 @@ impl Job {
     pub const FRESH: Job = Job {
         mode: Mode::Default,
         allowed: Mask::EMPTY,
-        places: [0; 16],
+        places: [0; PLACES_PER_JOB],
     };
 
     // A fresh job.
@@ -197,22 +139,6 @@ impl Job {
         ensures { λ r. ⌜ jobOf r ≡ fresh ⌝ }
     {
         Job::FRESH
-    }
-
-    // "Install stores mode, flag, user mask or places, keeps the allowed mask and clears the rest"
-    pub fn installed(allowed: Mask, mode: u8, flag: u8, user: Mask, places: &[u8]) -> Job
-        requires { ⌜ (0 < allowed .0) × (length (now places) ≤ placesPerJob) ⌝ }
-        ensures { λ r. ⌜ ((n : ℕ) (x : Record) → x .allowed ≡ allowed .0 → wellFormed n (installed x mode flag (user .0) (now (places .entry))) ≡ true → jobOf r ≡ installed x mode flag (user .0) (now (places .entry))) ⌝ }
-    {
-        let flag = Flag::of(flag);
-        let effective = flag.effective(user, allowed);
-        let mode = Mode::of(mode, flag, user, effective, places.len() as u8, 0);
-        let places = words::padded(places);
-        Job {
-            mode,
-            allowed,
-            places,
-        }
     }
 
     // "Rebind replaces the allowed mask"
@@ -230,13 +156,39 @@ impl Job {
         }
     }
 
-    // What a rebind leaves is not refused: refusal 9.
-    pub fn rebind_fits(self) -> bool
-        ensures { λ r. ⌜ r ≡ rebindFits (jobOf self) ⌝ }
+    // A record with the job's allowed mask and places.
+    fn with(self, mode: u8, flag: u8, len: u8, cursor: u8, user: Mask, effective: Mask) -> Record
+        ensures { λ r. ⌜ recordOf r ≡ recordWith (carried mode flag len cursor (user .0) (effective .0)) (self .allowed .0) (self .places) ⌝ }
+    {
+        let allowed = self.allowed;
+        let places = self.places;
+        Record {
+            mode,
+            flag,
+            len,
+            cursor,
+            rest: 0,
+            user,
+            allowed,
+            effective,
+            places,
+        }
+    }
+
+    // The record that holds the job.
+    pub fn as_record(self) -> Record
+        ensures { λ r. ⌜ recordOf r ≡ jobOf self ⌝ }
     {
         let mode = self.mode;
-        let user = mode.user();
-        let effective = mode.effective();
-        !(effective.is_empty() & !(mode.flag() == 1) & !user.is_empty())
+        let none = Mask::EMPTY;
+        match mode {
+            Mode::Default => self.with(0, 0, 0, 0, none, none),
+            Mode::Preferred(flag, u, e) => self.with(1, flag.number(), 0, 0, u, e),
+            Mode::Bind(flag, u, e) => self.with(2, flag.number(), 0, 0, u, e),
+            Mode::Interleave(flag, u, e, cursor) => self.with(3, flag.number(), 0, cursor, u, e),
+            Mode::List(len) => self.with(4, 0, len, 0, none, none),
+            Mode::Ring(len, cursor) => self.with(5, 0, len, cursor, none, none),
+            Mode::Early(len, cursor) => self.with(6, 0, len, cursor, none, none),
+        }
     }
 }

@@ -1,97 +1,89 @@
-// The job table: records of six words, and the calls that change them: install, rebind, clear.
+// The job table, and the calls that change it: install, rebind, clear. Each does what the rules say, for any page table beside it.
 
 ghost use mathlib.Core.Bool.{true};
+ghost use mathlib.Core.List.{List};
 ghost use mathlib.Core.Path.{_≡_};
+ghost use Prim.Native.Nat.{ℕ};
 ghost use lib.ListN.{length};
-ghost use Rattle.rules.specs.Calls.{recordTablesOk, onInstall, onRebind, onClear};
-ghost use Rattle.rules.specs.Replies.{answerOf};
+ghost use Rattle.rules.specs.Records.{Policy as Asked, policy};
+ghost use Rattle.rules.specs.Calls.{tablesOf, outcome, recordTablesOk, onInstall, onRebind, onClear};
+ghost use Rattle.rules.specs.Answers.{answerOf};
+ghost use Rattle.records.specs.Jobs.{Asks};
 use job::Job;
 use nodemask::Mask;
+use policy::Policy;
+use rules::Answer;
 use rules::Refusal;
-use rules::Reply;
 
-pub mod fields;
 pub mod job;
 pub mod policy;
+pub mod record;
 pub mod table;
 pub mod words;
 
 // Install on tables that are in order.
-pub fn install_at(
-    nodes: usize,
-    jobs: &mut [u64],
-    job: usize,
-    mode: u64,
-    flag: u64,
-    mask: u64,
-    places: &[u8],
-) -> Reply
+pub fn install_at(nodes: usize, jobs: &mut [u64], job: usize, policy: Policy) -> Answer
     requires { ⌜ recordTablesOk nodes (length (now jobs)) ≡ true ⌝ }
-    ensures answer { λ r. ⌜ answerOf r ≡ onInstall nodes (now (jobs .entry)) job mode flag mask (now (places .entry)) .answer ⌝ }
-    ensures records { λ r. ⌜ now (jobs .exit) ≡ onInstall nodes (now (jobs .entry)) job mode flag mask (now (places .entry)) .records ⌝ }
+    ensures { λ r. ⌜ ((ledger : List ℕ) (p : Asked) → Asks policy p → outcome (answerOf r) (tablesOf ledger (now (jobs .exit))) ≡ onInstall nodes (tablesOf ledger (now (jobs .entry))) job p) ⌝ }
 {
-    if job >= jobs.len() / 6 {
-        return Reply::Refused(Refusal::NoSuchJob);
+    if !table::has_job(jobs.len(), job) {
+        return Answer::Refused(Refusal::NoSuchJob);
     }
     let old = table::load(jobs, job);
     if !old.well_formed(nodes) {
-        return Reply::Refused(Refusal::MalformedRecord);
+        return Answer::Refused(Refusal::MalformedRecord);
     }
-    let user = Mask(mask);
-    if !policy::known(mode, flag, user) {
-        return Reply::Refused(Refusal::UnknownPolicy);
+    if !policy.known() {
+        return Answer::Refused(Refusal::UnknownPolicy);
     }
     let allowed = old.allowed;
     if allowed.is_empty() {
-        return Reply::Refused(Refusal::NothingAllowed);
+        return Answer::Refused(Refusal::NothingAllowed);
     }
-    if !policy::fits(nodes, allowed, mode, flag, user, places.len()) {
-        return Reply::Refused(Refusal::DoesNotFit);
+    if !policy.fits(nodes, allowed) {
+        return Answer::Refused(Refusal::DoesNotFit);
     }
-    let next = Job::installed(allowed, mode as u8, flag as u8, user, places);
-    table::store(jobs, job, next);
-    Reply::Done
+    table::store(jobs, job, old.installed(policy));
+    Answer::Done
 }
 
 // Rebind on tables that are in order.
-pub fn rebind_at(nodes: usize, jobs: &mut [u64], job: usize, allowed: u64) -> Reply
+pub fn rebind_at(nodes: usize, jobs: &mut [u64], job: usize, allowed: u64) -> Answer
     requires { ⌜ recordTablesOk nodes (length (now jobs)) ≡ true ⌝ }
-    ensures answer { λ r. ⌜ answerOf r ≡ onRebind nodes (now (jobs .entry)) job allowed .answer ⌝ }
-    ensures records { λ r. ⌜ now (jobs .exit) ≡ onRebind nodes (now (jobs .entry)) job allowed .records ⌝ }
+    ensures { λ r. ⌜ ((ledger : List ℕ) → outcome (answerOf r) (tablesOf ledger (now (jobs .exit))) ≡ onRebind nodes (tablesOf ledger (now (jobs .entry))) job allowed) ⌝ }
 {
-    if job >= jobs.len() / 6 {
-        return Reply::Refused(Refusal::NoSuchJob);
+    if !table::has_job(jobs.len(), job) {
+        return Answer::Refused(Refusal::NoSuchJob);
     }
     let old = table::load(jobs, job);
     if !old.well_formed(nodes) {
-        return Reply::Refused(Refusal::MalformedRecord);
+        return Answer::Refused(Refusal::MalformedRecord);
     }
     let new = Mask(allowed);
     if !new.below(nodes) {
-        return Reply::Refused(Refusal::DoesNotFit);
+        return Answer::Refused(Refusal::DoesNotFit);
     }
     if new.is_empty() {
-        return Reply::Refused(Refusal::NothingAllowed);
+        return Answer::Refused(Refusal::NothingAllowed);
     }
-    let next = old.job().rebound(new);
-    if !next.rebind_fits() {
-        return Reply::Refused(Refusal::NothingEffective);
+    let next = old.job().rebound(new).as_record();
+    if next.effective.is_empty() & !(next.flag == 1) & !next.user.is_empty() {
+        return Answer::Refused(Refusal::NothingEffective);
     }
     table::store(jobs, job, next);
-    Reply::Done
+    Answer::Done
 }
 
 // Clear on tables that are in order.
-pub fn clear_at(nodes: usize, jobs: &mut [u64], job: usize) -> Reply
+pub fn clear_at(nodes: usize, jobs: &mut [u64], job: usize) -> Answer
     requires { ⌜ recordTablesOk nodes (length (now jobs)) ≡ true ⌝ }
-    ensures answer { λ r. ⌜ answerOf r ≡ onClear nodes (now (jobs .entry)) job .answer ⌝ }
-    ensures records { λ r. ⌜ now (jobs .exit) ≡ onClear nodes (now (jobs .entry)) job .records ⌝ }
+    ensures { λ r. ⌜ ((ledger : List ℕ) → outcome (answerOf r) (tablesOf ledger (now (jobs .exit))) ≡ onClear nodes (tablesOf ledger (now (jobs .entry))) job) ⌝ }
 {
-    if job >= jobs.len() / 6 {
-        return Reply::Refused(Refusal::NoSuchJob);
+    if !table::has_job(jobs.len(), job) {
+        return Answer::Refused(Refusal::NoSuchJob);
     }
-    table::store(jobs, job, Job::FRESH);
-    Reply::Done
+    table::store(jobs, job, Job::fresh().as_record());
+    Answer::Done
 }
 
 // Install: a job's mode, flag, user mask or places.
@@ -103,34 +95,39 @@ pub fn install(
     flag: u64,
     mask: u64,
     places: &[u8],
-) -> Reply
-    ensures answer { λ r. ⌜ answerOf r ≡ onInstall nodes (now (jobs .entry)) job mode flag mask (now (places .entry)) .answer ⌝ }
-    ensures records { λ r. ⌜ now (jobs .exit) ≡ onInstall nodes (now (jobs .entry)) job mode flag mask (now (places .entry)) .records ⌝ }
+) -> Answer
+    ensures { λ r. ⌜ ((ledger : List ℕ) → outcome (answerOf r) (tablesOf ledger (now (jobs .exit))) ≡ onInstall nodes (tablesOf ledger (now (jobs .entry))) job (policy mode flag mask (now (places .entry)))) ⌝ }
 {
     if !table::tables_ok(nodes, jobs.len()) {
-        return Reply::Refused(Refusal::BadTables);
+        return Answer::Refused(Refusal::BadTables);
     }
-    install_at(nodes, jobs, job, mode, flag, mask, places)
+    let first = words::padded(places);
+    let policy = Policy {
+        mode,
+        flag,
+        user: Mask(mask),
+        len: places.len(),
+        places: first,
+    };
+    install_at(nodes, jobs, job, policy)
 }
 
 // Rebind: a job's allowed nodes.
-pub fn rebind(nodes: usize, jobs: &mut [u64], job: usize, allowed: u64) -> Reply
-    ensures answer { λ r. ⌜ answerOf r ≡ onRebind nodes (now (jobs .entry)) job allowed .answer ⌝ }
-    ensures records { λ r. ⌜ now (jobs .exit) ≡ onRebind nodes (now (jobs .entry)) job allowed .records ⌝ }
+pub fn rebind(nodes: usize, jobs: &mut [u64], job: usize, allowed: u64) -> Answer
+    ensures { λ r. ⌜ ((ledger : List ℕ) → outcome (answerOf r) (tablesOf ledger (now (jobs .exit))) ≡ onRebind nodes (tablesOf ledger (now (jobs .entry))) job allowed) ⌝ }
 {
     if !table::tables_ok(nodes, jobs.len()) {
-        return Reply::Refused(Refusal::BadTables);
+        return Answer::Refused(Refusal::BadTables);
     }
     rebind_at(nodes, jobs, job, allowed)
 }
 
 // Clear: a job's record becomes fresh; held pages stay held.
-pub fn clear(nodes: usize, jobs: &mut [u64], job: usize) -> Reply
-    ensures answer { λ r. ⌜ answerOf r ≡ onClear nodes (now (jobs .entry)) job .answer ⌝ }
-    ensures records { λ r. ⌜ now (jobs .exit) ≡ onClear nodes (now (jobs .entry)) job .records ⌝ }
+pub fn clear(nodes: usize, jobs: &mut [u64], job: usize) -> Answer
+    ensures { λ r. ⌜ ((ledger : List ℕ) → outcome (answerOf r) (tablesOf ledger (now (jobs .exit))) ≡ onClear nodes (tablesOf ledger (now (jobs .entry))) job) ⌝ }
 {
     if !table::tables_ok(nodes, jobs.len()) {
-        return Reply::Refused(Refusal::BadTables);
+        return Answer::Refused(Refusal::BadTables);
     }
     clear_at(nodes, jobs, job)
 }

@@ -2,69 +2,77 @@
 
 ghost use mathlib.Core.Path.{_≡_};
 ghost use Prim.Native.Nat.{_<_};
+ghost use lib.Dec.{ltb};
 ghost use lib.ListN.{length};
 ghost use Rattle.rules.specs.Calls.{recordTablesOk};
-ghost use Rattle.rules.specs.Records.{jobCount, jobAt, putJob, withCursor};
-ghost use Rattle.records.specs.Jobs.{jobOf, recordOf};
-use super::fields::Fields;
-use super::job::Job;
+ghost use Rattle.rules.specs.Records.{jobCount, recordAt, putRecord, withTurn};
+ghost use Rattle.records.specs.Jobs.{recordOf, turnOf};
+use super::record::Record;
 use super::words;
+use nodemask;
 use nodemask::Mask;
+use rules::MOST_JOBS;
 use rules::Place;
+use rules::WORDS_PER_JOB;
 
 // N and the length of the job table are in order.
 pub fn tables_ok(nodes: usize, words: usize) -> bool
     ensures { λ r. ⌜ r ≡ recordTablesOk nodes words ⌝ }
 {
-    let jobs = words / 6;
-    ((1 <= nodes) & (nodes <= 64)) & ((words % 6 == 0) & ((1 <= jobs) & (jobs <= 64)))
+    let jobs = words / WORDS_PER_JOB;
+    nodemask::nodes_ok(nodes) & ((words % WORDS_PER_JOB == 0) & ((1 <= jobs) & (jobs <= MOST_JOBS)))
+}
+
+// The job is one of the table's.
+pub fn has_job(words: usize, job: usize) -> bool
+    ensures { λ r. ⌜ r ≡ ltb job (jobCount words) ⌝ }
+{
+    job < words / WORDS_PER_JOB
 }
 
 // The record of a job.
-pub fn load(jobs: &[u64], job: usize) -> Fields
+pub fn load(jobs: &[u64], job: usize) -> Record
     requires { ⌜ job < jobCount (length (now jobs)) ⌝ }
-    ensures { λ r. ⌜ recordOf r ≡ jobAt (now (jobs .entry)) job ⌝ }
+    ensures { λ r. ⌜ recordOf r ≡ recordAt (now (jobs .entry)) job ⌝ }
 {
-    let at = 6 * job;
-    let word = jobs[at];
-    let places = words::unpack(jobs[at + 4], jobs[at + 5]);
-    Fields {
+    let start = WORDS_PER_JOB * job;
+    let end = start + WORDS_PER_JOB;
+    let held = &jobs[start..end];
+    let word = held[0];
+    let places = words::unpack(held[4], held[5]);
+    Record {
         mode: words::byte(word, 0),
         flag: words::byte(word, 1),
         len: words::byte(word, 2),
         cursor: words::byte(word, 3),
         rest: (word >> 32) as u32,
-        user: Mask(jobs[at + 1]),
-        allowed: Mask(jobs[at + 2]),
-        effective: Mask(jobs[at + 3]),
+        user: Mask(held[1]),
+        allowed: Mask(held[2]),
+        effective: Mask(held[3]),
         places,
     }
 }
 
 // Another record for a job.
-pub fn store(jobs: &mut [u64], job: usize, next: Job)
+pub fn store(jobs: &mut [u64], job: usize, new: Record)
     requires { ⌜ job < jobCount (length (now jobs)) ⌝ }
-    ensures { λ r. ⌜ now (jobs .exit) ≡ putJob (now (jobs .entry)) job (jobOf next) ⌝ }
+    ensures { λ r. ⌜ now (jobs .exit) ≡ putRecord (now (jobs .entry)) job (recordOf new) ⌝ }
 {
-    let at = 6 * job;
-    let mode = next.mode;
-    let user = mode.user();
-    let allowed = next.allowed;
-    let effective = mode.effective();
-    let places = next.places;
-    jobs[at] = mode.head();
-    jobs[at + 1] = user.0;
-    jobs[at + 2] = allowed.0;
-    jobs[at + 3] = effective.0;
+    let at = WORDS_PER_JOB * job;
+    let places = new.places;
+    jobs[at] = words::head(new.mode, new.flag, new.len, new.cursor) | ((new.rest as u64) << 32);
+    jobs[at + 1] = new.user.0;
+    jobs[at + 2] = new.allowed.0;
+    jobs[at + 3] = new.effective.0;
     jobs[at + 4] = words::pack(places, Place(0));
     jobs[at + 5] = words::pack(places, Place(8));
 }
 
-// Another cursor for a job: one word is written.
+// Another cursor for a job, and zeros above it: one word is written.
 pub fn store_cursor(jobs: &mut [u64], job: usize, cursor: u8)
     requires { ⌜ job < jobCount (length (now jobs)) ⌝ }
-    ensures { λ r. ⌜ now (jobs .exit) ≡ putJob (now (jobs .entry)) job (withCursor (jobAt (now (jobs .entry)) job) cursor) ⌝ }
+    ensures { λ r. ⌜ now (jobs .exit) ≡ putRecord (now (jobs .entry)) job (withTurn (recordAt (now (jobs .entry)) job) (turnOf cursor)) ⌝ }
 {
-    let at = 6 * job;
-    jobs[at] = words::with_cursor(jobs[at], cursor);
+    let at = WORDS_PER_JOB * job;
+    jobs[at] = (jobs[at] & 0xff_ffff) | ((cursor as u64) << 24);
 }

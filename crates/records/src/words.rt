@@ -3,8 +3,9 @@
 ghost use mathlib.Core.Path.{_≡_};
 ghost use mathlib.Core.List.{_++_};
 ghost use Prim.Native.Nat.{_+_, _*_, _/_, _%_, _^_, _<_, _≤_};
-ghost use lib.ListN.{length, take, drop, replicate};
+ghost use lib.ListN.{take, drop, replicate};
 ghost use Rattle.rules.specs.Records.{placesPerJob, bytesOf, fromBytes};
+use rules::PLACES_PER_JOB;
 use rules::Place;
 
 // Byte k of a word, lowest first.
@@ -22,18 +23,11 @@ pub fn head(mode: u8, flag: u8, len: u8, cursor: u8) -> u64
     (mode as u64) | ((flag as u64) << 8) | ((len as u64) << 16) | ((cursor as u64) << 24)
 }
 
-// Word 0 with another cursor.
-pub fn with_cursor(word: u64, cursor: u8) -> u64
-    ensures { λ r. ⌜ r ≡ word % 2 ^ 24 + cursor * 2 ^ 24 + word / 2 ^ 32 * 2 ^ 32 ⌝ }
-{
-    (word & 0xff_ffff) | ((cursor as u64) << 24) | ((word >> 32) << 32)
-}
-
 // The sixteen places of words 4 and 5.
-pub fn unpack(low: u64, high: u64) -> [u8; 16]
+pub fn unpack(low: u64, high: u64) -> [u8; PLACES_PER_JOB]
     ensures { λ r. ⌜ r ≡ bytesOf 8 low ++ bytesOf 8 high ⌝ }
 {
-    let mut out = [0u8; 16];
+    let mut out = [0u8; PLACES_PER_JOB];
     let mut i: usize = 0;
     while i < 8 {
         out[i] = byte(low, i);
@@ -44,7 +38,7 @@ pub fn unpack(low: u64, high: u64) -> [u8; 16]
 }
 
 // Eight of the places, from one on, as a word.
-pub fn pack(places: [u8; 16], from: Place) -> u64
+pub fn pack(places: [u8; PLACES_PER_JOB], from: Place) -> u64
     requires { ⌜ from .0 ≤ 8 ⌝ }
     ensures { λ r. ⌜ r ≡ fromBytes (take 8 (drop (from .0) places)) ⌝ }
 {
@@ -58,17 +52,15 @@ pub fn pack(places: [u8; 16], from: Place) -> u64
     word
 }
 
-// A list of places, filled up with zeros.
-pub fn padded(places: &[u8]) -> [u8; 16]
-    requires { ⌜ length (now places) ≤ placesPerJob ⌝ }
+// The first sixteen of a list of places; zeros past its end.
+pub fn padded(places: &[u8]) -> [u8; PLACES_PER_JOB]
     ensures { λ r. ⌜ r ≡ take placesPerJob (now (places .entry) ++ replicate placesPerJob 0) ⌝ }
 {
-    let mut out = [0u8; 16];
-    let mut place = Place(0);
-    while (place.0 as usize) < places.len() {
-        let at = place.0 as usize;
-        out[at] = places[at];
-        place = Place(place.0 + 1);
+    let mut out = [0u8; PLACES_PER_JOB];
+    let mut i: usize = 0;
+    while (i < places.len()) & (i < PLACES_PER_JOB) {
+        out[i] = places[i];
+        i += 1;
     }
     out
 }

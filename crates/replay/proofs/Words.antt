@@ -1,100 +1,134 @@
--- The laws of the encoded calls: the places of a call byte by byte, and the calls of a list one by one.
+-- The laws of the encoded calls: the places of a call, and the calls of a list one by one.
 -- Assumes nothing.
-use Prim.Native.Nat.{ℕ, zero, suc, _+_, _-_, _*_, _/_, _%_, _^_, _≤_, _<_}
+use Prim.Native.Nat.{ℕ, zero, suc, _+_, _-_, _*_, _%_, _≤_, _<_}
 use mathlib.Core.Path.{_≡_, refl, sym, ap, _∙_}
-use mathlib.Core.Bool.{Bool, true, false, _&&_}
-use mathlib.Core.List.{List, [], _∷_, _++_, map}
+use mathlib.Core.Bool.{Bool, true, false, _&&_, and-false}
+use mathlib.Core.List.{List, [], _∷_, _++_, append-assoc}
 use native.Mathlib.Nat.{zero-add, sub-zero, add-sub-cancel-left}
-use native.Mathlib.Numerals.{add-one}
 use native.Mathlib.Omega.{arith}
-use borrow.Author.Tests.{ltb-true, ltb-false, eq-eqb, ne-eqb}
-use lib.Dec.{ltb, eqb}
-use lib.ListN.{length, getD, set, take, drop, length-append, length-drop, List·getD-append, length-map}
-use lib.Seq.{take-all, length-take-le, take-suc, take-suc-set, getD-append-add, getD-drop}
-use Rattle.rules.specs.Basics.{all, each, from}
-use Rattle.rules.specs.Records.{bytesOf}
-use Rattle.rules.specs.Book.{Call}
-use Rattle.rules.proofs.Bytes.{bytes-length, bytes-at}
-use Rattle.rules.proofs.Lists.{both-true, all-true, member-from}
-use Rattle.machine.proofs.Tables.{all-from-step, all-from-end}
-use Rattle.replay.specs.Encoding.{callWords, callPlaces, placesIn, callIn, callOk, wordsOf, callCount, callsIn, callsOk}
+use borrow.Author.Tests.{eq-eqb, ne-eqb, leb-true, lt-leb}
+use lib.Dec.{eqb, leb}
+use lib.ListN.{length, take, drop, replicate, length-append, length-drop, length-replicate}
+use lib.Seq.{take-all, take-append-le, length-take-le, take-take, drop-cons}
+use Rattle.rules.specs.Basics.{all, each, from, between}
+use Rattle.rules.specs.Records.{bytesOf, placesPerJob, policy}
+use Rattle.rules.specs.Decisions.{Decision, accept, isAccepted, acceptedIn}
+use Rattle.rules.specs.Book.{Call, request, release, install, rebind, clear}
+use Rattle.rules.specs.Journal.{kindOf}
+use Rattle.rules.proofs.Bytes.{bytes-length}
+use Rattle.rules.proofs.Lists.{both-true, all-true, member-from, each-from-suc, all-from-step, all-from-end}
+use Rattle.replay.specs.Encoding.{callWords, wordAt, filled, placesIn, callOf, callIn, wordsOf, callCount, callsTo, callsOk}
 
--- ---- the places of a call
+-- ---- one call
 
--- place i of some words, eight to a word, is byte i % 8 of word i / 8
-abbrev ByteAt : List ℕ → ℕ → Type 0
-ByteAt ws i = getD (each (bytesOf 8) ws) i 0 ≡ getD ws (i / 8) 0 / 2 ^ (8 * (i % 8)) % 256
-
-words-byte : (ws : List ℕ) (i : ℕ) → i < 8 * length ws → ByteAt ws i
-unfolding each
-words-byte [] i h = absurd (omega arith)
-words-byte (w ∷ ws) i h = go (ltb i 8) refl (λ k l. words-byte ws k l)
+-- "1 request, 2 release, 3 rebind, 4 install, 5 clear": these kinds are known
+pub known-kind : (call : List ℕ) → isAccepted (callIn call) ≡ between 1 5 (wordAt call 0)
+unfolding callIn
+known-kind call = go (wordAt call 0)
   where
-    go : (b : Bool) → ltb i 8 ≡ b → ((k : ℕ) → k < 8 * length ws → ByteAt ws k) → ByteAt (w ∷ ws) i
-    go true t ih =
-        let l : i < 8 = ltb-true i 8 t in
-        let q : i / 8 ≡ 0 = omega arith in
-        let r : i % 8 ≡ i = omega arith in
-        rw (q, r) (List·getD-append (bytesOf 8 w) (each (bytesOf 8) ws) 0 i (omega (arith, bytes-length 8 w)) ∙ bytes-at 8 w i l)
-    go false t ih =
-        let l : 8 ≤ i = ltb-false i 8 t in
-        let k : ℕ = i - 8 in
-        let e : i ≡ length (bytesOf 8 w) + k = omega (arith, bytes-length 8 w) in
-        let q : i / 8 ≡ suc (k / 8) = omega arith in
-        let r : i % 8 ≡ k % 8 = omega arith in
-        rw (q, r) (ap (λ (x : ℕ). getD (bytesOf 8 w ++ each (bytesOf 8) ws) x 0) e ∙ getD-append-add (bytesOf 8 w) (each (bytesOf 8) ws) k 0 ∙ ih k (omega arith))
+    go : (k : ℕ) → isAccepted (callOf (kindOf k) call) ≡ between 1 5 k
+    go zero = unfold callOf in refl
+    go (suc zero) = unfold callOf in refl
+    go (suc (suc zero)) = unfold callOf in refl
+    go (suc (suc (suc zero))) = unfold callOf in refl
+    go (suc (suc (suc (suc zero)))) = unfold callOf in refl
+    go (suc (suc (suc (suc (suc zero))))) = unfold callOf in refl
+    go (suc (suc (suc (suc (suc (suc k)))))) =
+        let n : ℕ = suc (suc (suc (suc (suc (suc k))))) in
+        unfold callOf in rw (lt-leb n 5 (omega arith), and-false (leb 1 n))
 
-words-length : (ws : List ℕ) → length (each (bytesOf 8) ws) ≡ 8 * length ws
-unfolding each
-words-length [] = refl
-words-length (w ∷ ws) = omega (arith, length-append (bytesOf 8 w) (each (bytesOf 8) ws), bytes-length 8 w, words-length ws)
+-- the call of a kind
+module _ (call : List ℕ) (c : Call) (e : callIn call ≡ accept c) where
+  of-kind : (k : ℕ) → wordAt call 0 ≡ k → callOf (kindOf k) call ≡ accept c
+  unfolding callIn
+  of-kind k s = rw (sym s) e
 
--- a call has room for 64 places
-pub places-length : (call : List ℕ) → length call ≡ callWords → length (placesIn call) ≡ callPlaces
+  -- 1 is a request
+  pub says-request : wordAt call 0 ≡ 1 → c ≡ request (wordAt call 1) (wordAt call 2)
+  unfolding callOf
+  says-request s = let q = of-kind 1 s in cc
+
+  -- 2 is a release
+  pub says-release : wordAt call 0 ≡ 2 → c ≡ release (wordAt call 1) (wordAt call 2)
+  unfolding callOf
+  says-release s = let q = of-kind 2 s in cc
+
+  -- 3 is a rebind
+  pub says-rebind : wordAt call 0 ≡ 3 → c ≡ rebind (wordAt call 1) (wordAt call 2)
+  unfolding callOf
+  says-rebind s = let q = of-kind 3 s in cc
+
+  -- 4 is an install
+  pub says-install : wordAt call 0 ≡ 4 → c ≡ install (wordAt call 1) (policy (wordAt call 2) (wordAt call 3) (wordAt call 4) (placesIn call))
+  unfolding callOf
+  says-install s = let q = of-kind 4 s in cc
+
+  -- and what is none of these is a clear
+  pub says-clear : (wordAt call 0 ≡ 1 → ⊥) → (wordAt call 0 ≡ 2 → ⊥) → (wordAt call 0 ≡ 3 → ⊥) → (wordAt call 0 ≡ 4 → ⊥) → c ≡ clear (wordAt call 1)
+  unfolding callOf
+  says-clear n₁ n₂ n₃ n₄ =
+      let k = both-true {a = leb 1 (wordAt call 0)} (sym (known-kind call) ∙ ap isAccepted e) in
+      let five : wordAt call 0 ≡ 5 = between-four (leb-true 1 (wordAt call 0) (k .0)) (leb-true (wordAt call 0) 5 (k .1)) n₁ n₂ n₃ n₄ in
+      let q = of-kind 5 five in cc
+    where
+      between-four : {n : ℕ} → 1 ≤ n → n ≤ 5 → (n ≡ 1 → ⊥) → (n ≡ 2 → ⊥) → (n ≡ 3 → ⊥) → (n ≡ 4 → ⊥) → n ≡ 5
+      between-four l h a b c d = omega (arith)
+
+-- a list of so many places has that length
+pub places-length : (call : List ℕ) → length (placesIn call) ≡ wordAt call 5
 unfolding placesIn
-places-length call h = omega (arith, words-length (drop 8 call), length-drop 8 call)
+places-length call =
+    let n : ℕ = wordAt call 5 in
+    length-take-le n _ (omega (arith, length-append (each (bytesOf 8) (drop 8 call)) (replicate n 0), length-replicate n (let z : ℕ = 0 in z)))
 
--- place i is byte i % 8 of word 8 + i / 8
-pub place-at : (call : List ℕ) (i : ℕ) → length call ≡ callWords → i < callPlaces
-    → getD (placesIn call) i 0 ≡ getD call (8 + i / 8) 0 / 2 ^ (8 * (i % 8)) % 256
-unfolding placesIn
-place-at call i h l = words-byte (drop 8 call) i (omega (arith, length-drop 8 call)) ∙ rw getD-drop
+-- the sixteen places of words 8 and 9
+abbrev pub sixteen : List ℕ → List ℕ
+sixteen call = bytesOf 8 (wordAt call 8) ++ bytesOf 8 (wordAt call 9)
 
--- one place more is in
-pub place-step : (call places : List ℕ) (i b : ℕ) → length call ≡ callWords → length places ≡ callPlaces → i < callPlaces
-    → b ≡ getD call (8 + i / 8) 0 / 2 ^ (8 * (i % 8)) % 256 → take i places ≡ take i (placesIn call)
-    → take (i + 1) (set places i b) ≡ take (i + 1) (placesIn call)
-place-step call places i b h l k e d =
-    rw (add-one i, take-suc-set places i b (omega arith), take-suc (placesIn call) i 0 (omega (arith, places-length call h)), d, e, place-at call i h k)
+module _ (call : List ℕ) (h : length call ≡ callWords) where
+  -- all places of the words, those of words 8 and 9 first
+  all-places : (rest : List ℕ) × (each (bytesOf 8) (drop 8 call) ≡ sixteen call ++ rest)
+  unfolding each
+  all-places =
+      let rest = each (bytesOf 8) (drop 10 call) in
+      let a = drop-cons call 8 0 (omega arith) in
+      let b = drop-cons call 9 0 (omega arith) in
+      (rest, rw (a, b) (sym (append-assoc (bytesOf 8 (wordAt call 8)) (bytesOf 8 (wordAt call 9)) rest)))
 
--- all are in
-pub places-whole : (call places : List ℕ) → length call ≡ callWords → length places ≡ callPlaces
-    → take callPlaces places ≡ take callPlaces (placesIn call) → places ≡ placesIn call
-places-whole call places h l e =
-    sym (take-all callPlaces places (omega arith)) ∙ e ∙ take-all callPlaces (placesIn call) (omega (arith, places-length call h))
+  -- there are sixteen of them
+  pub sixteen-long : length (sixteen call) ≡ placesPerJob
+  sixteen-long =
+      length-append (bytesOf 8 (wordAt call 8)) (bytesOf 8 (wordAt call 9)) ∙ omega (arith, bytes-length 8 (wordAt call 8), bytes-length 8 (wordAt call 9))
+
+  -- the list that the words say, before it is cut at its length: the places of words 8 and 9 first
+  listed : List ℕ
+  listed = each (bytesOf 8) (drop 8 call) ++ replicate (wordAt call 5) 0
+
+  tail : List ℕ
+  tail = all-places .0 ++ replicate (wordAt call 5) 0
+
+  sixteen-first : listed ≡ sixteen call ++ tail
+  unfolding listed tail
+  sixteen-first =
+      ap (λ (l : List ℕ). l ++ replicate (wordAt call 5) 0) (all-places .1) ∙ append-assoc (sixteen call) (all-places .0) (replicate (wordAt call 5) 0)
+
+  -- a list of at most sixteen places
+  pub short-places : wordAt call 5 ≤ placesPerJob → filled (take (wordAt call 5) (sixteen call)) ≡ filled (placesIn call)
+  unfolding placesIn listed
+  short-places l =
+      ap filled (sym (ap (take (wordAt call 5)) sixteen-first ∙ take-append-le (wordAt call 5) (sixteen call) tail (omega (arith, sixteen-long))))
+
+  -- a list of sixteen places or more
+  pub long-places : placesPerJob ≤ wordAt call 5 → sixteen call ≡ filled (placesIn call)
+  unfolding placesIn listed
+  long-places l =
+      let n : ℕ = wordAt call 5 in
+      let many : n ≤ length listed = omega (arith, length-append (each (bytesOf 8) (drop 8 call)) (replicate n 0), length-replicate n (let z : ℕ = 0 in z)) in
+      sym (take-append-le placesPerJob (take n listed) (replicate placesPerJob 0) (omega (arith, length-take-le n listed many))
+      ∙ take-take placesPerJob n listed l ∙ ap (take placesPerJob) sixteen-first
+      ∙ take-append-le placesPerJob (sixteen call) tail (omega (arith, sixteen-long)) ∙ take-all placesPerJob (sixteen call) (omega (arith, sixteen-long)))
 
 -- ---- the calls of a list
-
-from-length : (a k : ℕ) → length (from a k) ≡ k
-unfolding from
-from-length a zero = refl
-from-length a (suc k) = ap suc (from-length (suc a) k)
-
-map-from-at : {A : Type 0} (f : ℕ → A) (d : A) (a k i : ℕ) → i < k → getD (map f (from a k)) i d ≡ f (a + i)
-unfolding from
-map-from-at f d a zero i h = absurd (omega arith)
-map-from-at f d a (suc k) zero h = ap f (omega arith)
-map-from-at f d a (suc k) (suc i) h = map-from-at f d (suc a) k i (omega arith) ∙ ap f (omega arith)
-
--- there are as many calls as sixteens of words
-pub calls-length : (words : List ℕ) → length (callsIn words) ≡ callCount words
-unfolding callsIn
-calls-length words = length-map (from 0 (callCount words)) _ ∙ from-length 0 (callCount words)
-
--- call i is what words 16 * i and on say
-pub call-at : (words : List ℕ) (i : ℕ) (d : Call) → i < callCount words → getD (callsIn words) i d ≡ callIn (wordsOf words i)
-unfolding callsIn
-call-at words i d h = map-from-at (λ k. callIn (wordsOf words k)) d 0 (callCount words) i h ∙ ap (λ (k : ℕ). callIn (wordsOf words k)) (zero-add i)
 
 -- the part of the words from 16 * i to 16 more is call i's
 pub part-words : (words : List ℕ) (i : ℕ) → take (callWords * i + callWords - callWords * i) (drop (callWords * i) words) ≡ wordsOf words i
@@ -104,15 +138,24 @@ part-words words i = ap (λ (n : ℕ). take n (drop (callWords * i) words)) (add
 pub words-whole : (words : List ℕ) (i : ℕ) → i < callCount words → length (wordsOf words i) ≡ callWords
 words-whole words i l = length-take-le callWords (drop (callWords * i) words) (omega (arith, length-drop (callWords * i) words))
 
--- each call of a list that is in order is in order
-pub call-ok : (words : List ℕ) (i : ℕ) → callsOk words ≡ true → i < callCount words → callOk (wordsOf words i) ≡ true
+-- each call of a list that is in order is of a known kind
+pub call-ok : (words : List ℕ) (i : ℕ) → callsOk words ≡ true → i < callCount words → isAccepted (callIn (wordsOf words i)) ≡ true
 unfolding callsOk
 call-ok words i h l =
-    all-true (λ i. callOk (wordsOf words i)) (both-true {a = eqb (length words % callWords) 0} h .1) (member-from 0 (callCount words) i (omega arith) (omega arith))
+    all-true (λ i. isAccepted (callIn (wordsOf words i))) (both-true {a = eqb (length words % callWords) 0} h .1)
+    (member-from 0 (callCount words) i (omega arith) (omega arith))
+
+-- one call more, if it is of a known kind
+pub calls-more : (words : List ℕ) (i : ℕ) (c : Call) → callIn (wordsOf words i) ≡ accept c → callsTo words (suc i) ≡ callsTo words i ++ (c ∷ [])
+unfolding callsTo
+calls-more words i c e =
+    each-from-suc (λ k. acceptedIn (callIn (wordsOf words k))) 0 i
+    ∙ ap (λ (k : ℕ). each (λ k. acceptedIn (callIn (wordsOf words k))) (from 0 i) ++ acceptedIn (callIn (wordsOf words k))) (zero-add i)
+    ∙ ap (λ (d : Decision Call). each (λ k. acceptedIn (callIn (wordsOf words k))) (from 0 i) ++ acceptedIn d) e
 
 -- what the calls tested so far and those from call i on come to
 abbrev pub Tested : List ℕ → ℕ → Bool → Type 0
-Tested words i ok = (ok && all (λ k. callOk (wordsOf words k)) (from i (callCount words - i))) ≡ callsOk words
+Tested words i ok = (ok && all (λ k. isAccepted (callIn (wordsOf words k))) (from i (callCount words - i))) ≡ callsOk words
 
 -- a call that is cut short
 pub cut-short : (words : List ℕ) → (length words % callWords ≡ 0 → ⊥) → callsOk words ≡ false
@@ -122,14 +165,13 @@ cut-short words h = rw (ne-eqb (length words % callWords) 0 h)
 -- no call is tested, only the length
 pub none-tested : (words : List ℕ) → length words % callWords ≡ 0 → Tested words 0 true
 unfolding callsOk
-none-tested words h =
-    rw (eq-eqb (length words % callWords) 0 h, sub-zero (callCount words))
+none-tested words h = rw (eq-eqb (length words % callWords) 0 h, sub-zero (callCount words))
 
 -- one call more is tested
-pub one-tested : (words : List ℕ) (i : ℕ) (ok one : Bool) → i < callCount words → one ≡ callOk (wordsOf words i) → Tested words i ok
+pub one-tested : (words : List ℕ) (i : ℕ) (ok one : Bool) → i < callCount words → one ≡ isAccepted (callIn (wordsOf words i)) → Tested words i ok
     → Tested words (i + 1) (ok && one)
-one-tested words i ok one l e h = rw e (sym (all-from-step (λ k. callOk (wordsOf words k)) (callCount words) i ok l) ∙ h)
+one-tested words i ok one l e h = rw e (sym (all-from-step (λ k. isAccepted (callIn (wordsOf words k))) (callCount words) i ok l) ∙ h)
 
 -- all calls are tested
 pub all-tested : (words : List ℕ) (i : ℕ) (ok : Bool) → callCount words ≤ i → Tested words i ok → ok ≡ callsOk words
-all-tested words i ok l h = sym (all-from-end (λ k. callOk (wordsOf words k)) (callCount words) i ok l) ∙ h
+all-tested words i ok l h = sym (all-from-end (λ k. isAccepted (callIn (wordsOf words k))) (callCount words) i ok l) ∙ h

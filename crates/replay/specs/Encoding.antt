@@ -1,13 +1,14 @@
 -- A list of calls as 64-bit words, and an answer as one word: what `replay` reads and writes.
 -- Assumes nothing.
 use Prim.Native.Nat.{ℕ, _+_, _*_, _/_, _%_, _^_}
-use mathlib.Core.Bool.{Bool, not, _&&_, _||_}
-use mathlib.Core.List.{List, map}
-use lib.ListN.{length, getD, take, drop}
-use lib.Dec.{leb, eqb}
-use Rattle.rules.specs.Basics.{all, each, from, between}
-use Rattle.rules.specs.Records.{bytesOf}
-use Rattle.rules.specs.Calls.{Answer, numbers, Stored, onInstall}
+use mathlib.Core.Bool.{Bool, _&&_}
+use mathlib.Core.List.{List, _++_}
+use lib.ListN.{length, getD, take, drop, replicate}
+use lib.Dec.{eqb}
+use Rattle.rules.specs.Basics.{all, each, from}
+use Rattle.rules.specs.Records.{bytesOf, placesPerJob, policy}
+use Rattle.rules.specs.Decisions.{Decision, refuse, accept, isAccepted, acceptedIn}
+use Rattle.rules.specs.Calls.{Answer, numbers}
 use Rattle.rules.specs.Book.{Call, request, release, install, rebind, clear}
 use Rattle.rules.specs.Journal.{Kind, request′, release′, rebind′, install′, clear′, unknownKind, kindOf}
 
@@ -15,35 +16,31 @@ use Rattle.rules.specs.Journal.{Kind, request′, release′, rebind′, instal
 abbrev pub callWords : ℕ
 callWords = 16
 
--- and has room for 64 places
-abbrev pub callPlaces : ℕ
-callPlaces = 64
+-- word k of a call
+abbrev pub wordAt : List ℕ → ℕ → ℕ
+wordAt call k = getD call k 0
 
--- words 8 to 15 are the places, "one byte each, lowest byte first"
+-- a list of word 5's length stands in words 8 to 15, "one byte each, lowest byte first"; entries past the 64th are zero
 unfoldable pub placesIn : List ℕ → List ℕ
-placesIn call = each (bytesOf 8) (drop 8 call)
+placesIn call = take (wordAt call 5) (each (bytesOf 8) (drop 8 call) ++ replicate (wordAt call 5) 0)
+
+-- the first sixteen places of a list, filled up with zeros
+abbrev pub filled : List ℕ → List ℕ
+filled places = take placesPerJob (places ++ replicate placesPerJob 0)
 
 -- word 0 is the kind, "1 request, 2 release, 3 rebind, 4 install, 5 clear"; word 1 the job; word 2 the CPU, the page, the allowed mask or
--- the mode; word 3 the flag; word 4 the user mask; word 5 the number of places. Words that a kind does not name are ignored.
-unfoldable pub callOf : Kind → List ℕ → Call
-callOf request′ call = request (getD call 1 0) (getD call 2 0)
-callOf release′ call = release (getD call 1 0) (getD call 2 0)
-callOf rebind′ call = rebind (getD call 1 0) (getD call 2 0)
-callOf install′ call = install (getD call 1 0) (getD call 2 0) (getD call 3 0) (getD call 4 0) (take (getD call 5 0) (placesIn call))
-callOf clear′ call = clear (getD call 1 0)
-callOf unknownKind call = clear (getD call 1 0)
+-- the mode; word 3 the flag; word 4 the user mask. Words that a kind does not name are ignored. 13, no such kind
+unfoldable pub callOf : Kind → List ℕ → Decision Call
+callOf request′ call = accept (request (wordAt call 1) (wordAt call 2))
+callOf release′ call = accept (release (wordAt call 1) (wordAt call 2))
+callOf rebind′ call = accept (rebind (wordAt call 1) (wordAt call 2))
+callOf install′ call = accept (install (wordAt call 1) (policy (wordAt call 2) (wordAt call 3) (wordAt call 4) (placesIn call)))
+callOf clear′ call = accept (clear (wordAt call 1))
+callOf unknownKind call = refuse 13
 
 -- the call that sixteen words say
-unfoldable pub callIn : List ℕ → Call
-callIn call = callOf (kindOf (getD call 0 0)) call
-
--- what the install that sixteen words say does
-abbrev pub installIn : ℕ → List ℕ → List ℕ → Stored
-installIn n records call = onInstall n records (getD call 1 0) (getD call 2 0) (getD call 3 0) (getD call 4 0) (take (getD call 5 0) (placesIn call))
-
--- its kind is known, and an install has no more places than there is room for
-unfoldable pub callOk : List ℕ → Bool
-callOk call = between 1 5 (getD call 0 0) && (not (eqb (getD call 0 0) 4) || leb (getD call 5 0) callPlaces)
+unfoldable pub callIn : List ℕ → Decision Call
+callIn call = callOf (kindOf (wordAt call 0)) call
 
 -- the words of call i, and how many calls there are
 abbrev pub wordsOf : List ℕ → ℕ → List ℕ
@@ -52,13 +49,16 @@ wordsOf words i = take callWords (drop (callWords * i) words)
 abbrev pub callCount : List ℕ → ℕ
 callCount words = length words / callWords
 
--- the calls in a list of words
-unfoldable pub callsIn : List ℕ → List Call
-callsIn words = map (λ i. callIn (wordsOf words i)) (from 0 (callCount words))
+-- the first n calls in a list of words: those of a known kind
+unfoldable pub callsTo : List ℕ → ℕ → List Call
+callsTo words n = each (λ i. acceptedIn (callIn (wordsOf words i))) (from 0 n)
 
--- no call is cut short, and each is in order
+abbrev pub callsIn : List ℕ → List Call
+callsIn words = callsTo words (callCount words)
+
+-- 13: no call is cut short, and each is of a known kind
 unfoldable pub callsOk : List ℕ → Bool
-callsOk words = eqb (length words % callWords) 0 && all (λ i. callOk (wordsOf words i)) (from 0 (callCount words))
+callsOk words = eqb (length words % callWords) 0 && all (λ i. isAccepted (callIn (wordsOf words i))) (from 0 (callCount words))
 
 -- "Answers .. refusal, node or FF, .. page or FFFFFFFF": refusal in bits 0-7, node in 8-15, page in 32-63
 abbrev pub packed : List ℕ → ℕ
@@ -69,5 +69,5 @@ answerWord a = packed (numbers a)
 
 -- for a proof that computes: `unfolding openEncoding` opens every definition of this file
 unfoldable pub openEncoding : Unit {0}
-unfolding placesIn callOf callIn callOk callsIn callsOk answerWord
+unfolding placesIn callOf callIn callsTo callsOk answerWord
 openEncoding = tt

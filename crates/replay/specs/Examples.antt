@@ -9,11 +9,12 @@ use Rattle.rules.specs.Machine.{openMachine}
 use Rattle.rules.specs.Masks.{openMasks}
 use Rattle.rules.specs.Records.{openRecords}
 use Rattle.rules.specs.SearchOrder.{openSearchOrder}
-use Rattle.rules.specs.Calls.{openCalls, refuse, accept}
-use Rattle.rules.specs.Book.{openBook, request, release, install, rebind}
-use Rattle.rules.specs.Examples.{machineA, start}
+use Rattle.rules.specs.Decisions.{refuse, accept}
+use Rattle.rules.specs.Calls.{openCalls, tablesOf}
+use Rattle.rules.specs.Book.{openBook, request, release, rebind}
+use Rattle.rules.specs.Examples.{machineA, start, installs}
 use Rattle.replay.specs.Encoding.{openEncoding, callsIn}
-use Rattle.replay.specs.Replay.{openReplay, onReplay}
+use Rattle.replay.specs.Replay.{openReplay, run, onReplay}
 
 -- sixteen words: a kind, a job, three arguments, and no more than eight places
 abbrev call : ℕ → ℕ → ℕ → ℕ → ℕ → ℕ → ℕ → List ℕ
@@ -30,7 +31,7 @@ story =
 
 -- the calls that it says
 story-calls : callsIn story
-    ≡ rebind 0 15 ∷ install 0 5 0 0 (3 ∷ 3 ∷ 1 ∷ [])
+    ≡ rebind 0 15 ∷ installs 0 5 0 0 (3 ∷ 3 ∷ 1 ∷ [])
     ∷ request 0 0 ∷ request 0 0 ∷ request 0 0 ∷ request 0 0 ∷ request 0 0 ∷ release 0 5 ∷ request 0 0 ∷ []
 unfolding openBasics openRecords openEncoding
 story-calls = refl
@@ -44,20 +45,23 @@ no r = r + 255 * 2 ^ 8 + 4294967295 * 2 ^ 32
 
 -- pages 4, 5, 2, 3, then refusal 8; page 5 released and granted again; the word past the answers stays
 story-run : onReplay machineA (start machineA) story (replicate 10 7)
-    ≡ record {
-      answer = accept 9;
-      tables = record { ledger = 0 ∷ 0 ∷ 1 ∷ 1 ∷ 1 ∷ 1 ∷ []; records = (5 + 3 * 2 ^ 16 + 1 * 2 ^ 24) ∷ 0 ∷ 15 ∷ 0 ∷ (3 + 3 * 256 + 1 * 256 * 256) ∷ 0 ∷ [] };
-      output = no 0 ∷ no 0 ∷ page 3 4 ∷ page 3 5 ∷ page 1 2 ∷ page 1 3 ∷ no 8 ∷ page 3 5 ∷ page 3 5 ∷ 7 ∷ [];
-    }
+    ≡ run (accept 9)
+    (tablesOf (0 ∷ 0 ∷ 1 ∷ 1 ∷ 1 ∷ 1 ∷ []) ((5 + 3 * 2 ^ 16 + 1 * 2 ^ 24) ∷ 0 ∷ 15 ∷ 0 ∷ (3 + 3 * 256 + 1 * 256 * 256) ∷ 0 ∷ []))
+    (no 0 ∷ no 0 ∷ page 3 4 ∷ page 3 5 ∷ page 1 2 ∷ page 1 3 ∷ no 8 ∷ page 3 5 ∷ page 3 5 ∷ 7 ∷ [])
 unfolding openBasics openMachine openMasks openRecords openSearchOrder openCalls openBook openEncoding openReplay
 story-run = refl
 
 -- refused, and nothing changes
 abbrev Untouched : List ℕ → ℕ → ℕ → Type 0
-Untouched words room r =
-    onReplay machineA (start machineA) words (replicate room 7) ≡ record { answer = refuse r; tables = start machineA; output = replicate room 7 }
+Untouched words room r = onReplay machineA (start machineA) words (replicate room 7) ≡ run (refuse r) (start machineA) (replicate room 7)
 
--- a list that is cut short, an unknown kind, an install with too many places, and an output that is too short
-refused-whole : Untouched (1 ∷ story) 10 13 × Untouched (story ++ call 6 0 0 0 0 0 0) 10 13 × Untouched (call 4 0 5 0 0 65 0) 10 13 × Untouched story 8 11
+-- a list that is cut short, an unknown kind, and an output that is too short
+refused-whole : Untouched (1 ∷ story) 10 13 × Untouched (story ++ call 6 0 0 0 0 0 0) 10 13 × Untouched story 8 11
 unfolding openBasics openMachine openRecords openCalls openEncoding openReplay
-refused-whole = (refl, refl, refl, refl)
+refused-whole = (refl, refl, refl)
+
+-- an install may say any number of places: 16 are taken, more are refused by the install itself, even more than there are words for
+any-length : onReplay machineA (start machineA) (call 3 0 15 0 0 0 0 ++ call 4 0 5 0 0 17 0 ++ call 4 0 5 0 0 65 0 ++ call 4 0 5 3 0 65 0) (replicate 4 7)
+    ≡ run (accept 4) (tablesOf (replicate 6 0) (0 ∷ 0 ∷ 15 ∷ 0 ∷ 0 ∷ 0 ∷ [])) (no 0 ∷ no 6 ∷ no 6 ∷ no 5 ∷ [])
+unfolding openBasics openMachine openMasks openRecords openSearchOrder openCalls openBook openEncoding openReplay
+any-length = refl

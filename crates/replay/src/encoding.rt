@@ -1,34 +1,36 @@
 // A call as sixteen words, and an answer as one.
 
 ghost use mathlib.Core.Path.{_≡_};
-ghost use Prim.Native.Nat.{_+_, _*_, _^_};
 ghost use lib.ListN.{length};
-ghost use Rattle.rules.specs.Replies.{answerOf};
-ghost use Rattle.replay.specs.Encoding.{callWords, placesIn, callOk, callsOk, answerWord};
+ghost use Rattle.rules.specs.Answers.{answerOf};
+ghost use Rattle.rules.specs.Book.{Call as LawCall};
+ghost use Rattle.rules.specs.Decisions.{accept, isAccepted};
+ghost use Rattle.book.specs.Says.{Says};
+ghost use Rattle.replay.specs.Encoding.{callWords, filled, placesIn, callIn, callsOk, answerWord};
+use book::Call;
 use records::words;
-use rules::Place;
-use rules::Reply;
+use rules::Answer;
+use rules::PLACES_PER_JOB;
 
-// The words of a call, and the places that it has room for.
+// The words of a call.
 pub const CALL_WORDS: usize = 16;
 
-pub const CALL_PLACES: usize = 64;
-
-// Node and page of an answer that names none.
-const NO_NODE: u8 = 255;
-
-const NO_PAGE: u32 = 4_294_967_295;
-
-// Is the kind known, and is there room for the places of an install?
-fn call_ok(call: &[u64]) -> bool
-    requires { ⌜ length (now call) ≡ callWords ⌝ }
-    ensures { λ r. ⌜ r ≡ callOk (now (call .entry)) ⌝ }
-{
-    let kind = call[0];
-    (1 <= kind) & (kind <= 5) & (!(kind == 4) | (call[5] <= CALL_PLACES as u64))
+// A call that is read, and the places of its list.
+pub struct Entry {
+    pub call: Call,
+    pub places: [u8; PLACES_PER_JOB],
 }
 
-// Is every call of the list in order, and none cut short?
+// Is the kind known?
+fn call_ok(call: &[u64]) -> bool
+    requires { ⌜ length (now call) ≡ callWords ⌝ }
+    ensures { λ r. ⌜ r ≡ isAccepted (callIn (now (call .entry))) ⌝ }
+{
+    let kind = call[0];
+    (1 <= kind) & (kind <= 5)
+}
+
+// Is every call of the list of a known kind, and none cut short?
 pub fn calls_ok(calls: &[u64]) -> bool
     ensures { λ r. ⌜ r ≡ callsOk (now (calls .entry)) ⌝ }
 {
@@ -46,36 +48,65 @@ pub fn calls_ok(calls: &[u64]) -> bool
     ok
 }
 
-// All 64 places of a call.
-pub fn places_in(call: &[u64]) -> [u8; CALL_PLACES]
+// The first sixteen places of a call's list; zeros past its end.
+fn places_in(call: &[u64]) -> [u8; PLACES_PER_JOB]
     requires { ⌜ length (now call) ≡ callWords ⌝ }
-    ensures { λ r. ⌜ r ≡ placesIn (now (call .entry)) ⌝ }
+    ensures { λ r. ⌜ r ≡ filled (placesIn (now (call .entry))) ⌝ }
 {
-    let mut places = [0u8; CALL_PLACES];
-    let mut place = Place(0);
-    while (place.0 as usize) < CALL_PLACES {
-        let at = place.0 as usize;
-        places[at] = words::byte(call[8 + at / 8], at % 8);
-        place = Place(place.0 + 1);
+    let places = words::unpack(call[8], call[9]);
+    if call[5] < PLACES_PER_JOB as u64 {
+        let len = call[5] as usize;
+        return words::padded(&places[..len]);
     }
     places
 }
 
-// A refusal, a node and a page in one word.
-fn packed(refusal: u8, node: u8, page: u32) -> u64
-    ensures { λ r. ⌜ r ≡ refusal + node * 2 ^ 8 + page * 2 ^ 32 ⌝ }
+// The call that the words of a known kind say.
+pub fn read_call(call: &[u64]) -> Entry
+    requires { ⌜ length (now call) ≡ callWords ⌝ }
+    ensures { λ r. ⌜ ((c : LawCall) → callIn (now (call .entry)) ≡ accept c → Says (r .call) (r .places) c) ⌝ }
 {
-    refusal as u64 + node as u64 * 256 + page as u64 * 4_294_967_296
+    let kind = call[0];
+    let job = call[1] as usize;
+    if kind == 4 {
+        let said = Call::Install {
+            job: job,
+            mode: call[2],
+            flag: call[3],
+            mask: call[4],
+            len: call[5] as usize,
+        };
+        let places = places_in(call);
+        return Entry {
+            call: said,
+            places: places,
+        };
+    }
+    let said = match kind {
+        1 => Call::Request {
+            job: job,
+            cpu: call[2] as usize,
+        },
+        2 => Call::Release {
+            job: job,
+            page: call[2] as usize,
+        },
+        3 => Call::Rebind {
+            job: job,
+            allowed: call[2],
+        },
+        _ => Call::Clear { job: job },
+    };
+    Entry {
+        call: said,
+        places: [0; PLACES_PER_JOB],
+    }
 }
 
 // An answer in one word.
-pub fn answer_word(reply: Reply) -> u64
-    ensures { λ r. ⌜ r ≡ answerWord (answerOf reply) ⌝ }
+pub fn answer_word(answer: Answer) -> u64
+    ensures { λ r. ⌜ r ≡ answerWord (answerOf answer) ⌝ }
 {
-    match reply {
-        Reply::Granted(node, page) => packed(0, node.0, page.0),
-        Reply::Released(node, page) => packed(0, node.0, page.0),
-        Reply::Done => packed(0, NO_NODE, NO_PAGE),
-        Reply::Refused(why) => packed(why.number(), NO_NODE, NO_PAGE),
-    }
+    let told = answer.numbers();
+    told.refusal as u64 + told.node as u64 * 256 + told.page as u64 * 4_294_967_296
 }

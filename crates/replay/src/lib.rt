@@ -3,26 +3,22 @@
 ghost use mathlib.Core.Path.{_≡_};
 ghost use Prim.Native.Nat.{ℕ};
 ghost use lib.ListN.{replicate};
-ghost use Rattle.rules.specs.Calls.{accept};
+ghost use Rattle.rules.specs.Answers.{decisionOf};
+ghost use Rattle.rules.specs.Calls.{tablesOf};
+ghost use Rattle.rules.specs.Decisions.{accept};
 ghost use Rattle.machine.specs.Tables.{machineOf};
 ghost use Rattle.fairness.specs.Demand3.{Demand3};
-ghost use Rattle.placement.specs.Lent.{tablesOf};
 ghost use Rattle.replay.specs.Encoding.{callsIn};
-ghost use Rattle.replay.specs.Replay.{onReplay, decisionOf, Replays, Belongs};
+ghost use Rattle.replay.specs.Replay.{run, onReplay, Belongs};
+use book;
 use encoding::CALL_WORDS;
 use placement;
+use rules::Decision;
 use rules::Refusal;
 
 mod encoding;
-mod step;
 
-// How many calls ran, or why none did.
-pub enum Replayed {
-    Ran(usize),
-    Refused(Refusal),
-}
-
-// Runs every call, one after the other, and writes their answers.
+// Runs every call, one after the other, and writes their answers: how many ran, or why none did.
 pub fn replay(
     counts: &[u32],
     cpus: &[u8],
@@ -31,28 +27,31 @@ pub fn replay(
     jobs: &mut [u64],
     calls: &[u64],
     answers: &mut [u64],
-) -> Replayed
-    ensures ran { λ r. ⌜ Replays (onReplay (machineOf (now (counts .entry)) (now (cpus .entry)) (now (distances .entry))) (tablesOf (now (pages .entry)) (now (jobs .entry))) (now (calls .entry)) (now (answers .entry))) (decisionOf r) (now (pages .exit)) (now (jobs .exit)) (now (answers .exit)) ⌝ }
+) -> Decision
+    ensures ran { λ r. ⌜ run (decisionOf r) (tablesOf (now (pages .exit)) (now (jobs .exit))) (now (answers .exit)) ≡ onReplay (machineOf (now (counts .entry)) (now (cpus .entry)) (now (distances .entry))) (tablesOf (now (pages .entry)) (now (jobs .entry))) (now (calls .entry)) (now (answers .entry)) ⌝ }
     ensures fair { λ r. ⌜ Demand3 (machineOf (now (counts .entry)) (now (cpus .entry)) (now (distances .entry))) (tablesOf (now (pages .entry)) (now (jobs .entry))) (callsIn (now (calls .entry))) ⌝ }
     ensures ledger { λ r. ⌜ ((k n : ℕ) → now (pages .entry) ≡ replicate k 0 → decisionOf r ≡ accept n → Belongs (machineOf (now (counts .entry)) (now (cpus .entry)) (now (distances .entry))) (tablesOf (now (pages .entry)) (now (jobs .entry))) (callsIn (now (calls .entry))) (now (pages .exit))) ⌝ }
 {
-    if !placement::request_tables_ok(counts, cpus, distances, pages.len(), jobs.len()) {
-        return Replayed::Refused(Refusal::BadTables);
+    if !placement::request_tables_ok(counts, cpus, distances, pages, jobs) {
+        return Decision::Refuse(Refusal::BadTables);
     }
     if !encoding::calls_ok(calls) {
-        return Replayed::Refused(Refusal::DamagedJournal);
+        return Decision::Refuse(Refusal::DamagedJournal);
     }
     let n = calls.len() / CALL_WORDS;
     if answers.len() < n {
-        return Replayed::Refused(Refusal::OutputTooShort);
+        return Decision::Refuse(Refusal::OutputTooShort);
     }
     let mut i = 0;
     while i < n {
         let start = CALL_WORDS * i;
         let end = start + CALL_WORDS;
-        let reply = step::step(counts, cpus, distances, pages, jobs, &calls[start..end]);
-        answers[i] = encoding::answer_word(reply);
+        let read = encoding::read_call(&calls[start..end]);
+        let call = read.call;
+        let places = read.places;
+        let answer = book::perform(counts, cpus, distances, pages, jobs, call, places);
+        answers[i] = encoding::answer_word(answer);
         i += 1;
     }
-    Replayed::Ran(n)
+    Decision::Accept(n as u64)
 }

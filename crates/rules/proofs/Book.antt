@@ -1,21 +1,22 @@
 -- The book over lists of calls: a list in two parts, and whose page a page is.
 -- Assumes nothing.
-use Prim.Native.Nat.{ℕ, zero, suc, _+_}
+use Prim.Native.Nat.{ℕ, zero, suc, _+_, _<_}
 use mathlib.Core.Path.{_≡_, refl, sym, ap, subst, _∙_}
 use mathlib.Core.Logic.{_↔_}
-use mathlib.Core.Bool.{Bool, true, false, cond, false≢true}
+use mathlib.Core.Bool.{Bool, true, false, cond}
 use mathlib.Core.Option.{Option, none, some}
 use mathlib.Core.List.{List, [], _∷_, _++_}
 use native.Mathlib.Omega.{arith}
 use borrow.Author.Tests.{eqb-true, eqb-false}
-use lib.ListN.{length, getD, drop, set, replicate}
+use lib.Dec.{eqb}
+use lib.ListN.{length, getD, drop, set, replicate, length-set}
 use lib.Seq.{getD-set-same, getD-set-other}
-use Rattle.rules.specs.Basics.{keep, sum}
+use Rattle.rules.specs.Basics.{keep, sum, Each}
 use Rattle.rules.specs.Machine.{Machine}
-use Rattle.rules.specs.Calls.{Answer, granted, released, done, refused, Tables}
-use Rattle.rules.specs.Book.{Call, jobOf, step, answers, final, ledgerAfter}
-use Rattle.rules.specs.Ledger.{Step, steps, isAbout, lastElse, lastStep, givenBy, givenTo}
-use Rattle.rules.proofs.Calls.{ledger-by-answer, ledger-length, records-length, granted-in-table, released-in-table, past-pages-kept}
+use Rattle.rules.specs.Calls.{Answer, Tables, tablesOf, Write, afterWrites}
+use Rattle.rules.specs.Book.{Call, decision, step, answers, final}
+use Rattle.rules.specs.Ledger.{writesOf, writes, lastElse, lastWrite, holder, givenTo}
+use Rattle.rules.proofs.Calls.{AtPage, ledger-by-writes, ledger-length, records-length, writes-at-pages, past-pages-kept}
 
 -- ---- a list of calls in two parts
 
@@ -50,83 +51,103 @@ unfolding final
 past-pages-kept-all m t [] = refl
 past-pages-kept-all m t (c ∷ cs) = past-pages-kept-all m (step m t c .tables) cs ∙ past-pages-kept m t c
 
+-- ---- the ledger goes by what is written
+
+writes-append : (ledger : List ℕ) (vs ws : List Write) → afterWrites ledger (vs ++ ws) ≡ afterWrites (afterWrites ledger vs) ws
+unfolding afterWrites
+writes-append ledger [] ws = refl
+writes-append ledger (v ∷ vs) ws = writes-append (set ledger (v .page) (v .byte)) vs ws
+
+-- "A grant to job j writes j + 1 at its page in the ledger, a release 0. Nothing else changes the ledger": the ledger after a list of
+-- calls is the ledger with what they write
+pub final-by-writes : (m : Machine) (t : Tables) (cs : List Call) → final m t cs .ledger ≡ afterWrites (t .ledger) (writes m t cs)
+unfolding final writes afterWrites
+final-by-writes m t [] = refl
+final-by-writes m t (c ∷ cs) =
+    final-by-writes m (step m t c .tables) cs
+    ∙ ap (λ (l : List ℕ). afterWrites l (writes m (step m t c .tables) cs)) (ledger-by-writes m t c)
+    ∙ sym (writes-append (t .ledger) (writesOf (decision m t c)) (writes m (step m t c .tables) cs))
+
+-- the writes that stand in a table of this length
+abbrev InTable : ℕ → List Write → Type 0
+InTable k ws = Each (λ w. w .page < k) ws
+
+in-table-append : (k : ℕ) (vs ws : List Write) → InTable k vs → InTable k ws → InTable k (vs ++ ws)
+unfolding Each
+in-table-append k [] ws h g = g
+in-table-append k (v ∷ vs) ws h g = (h .0, in-table-append k vs ws (h .1) g)
+
+in-table-at : (counts ledger : List ℕ) (ws : List Write) → Each (AtPage counts ledger) ws → InTable (length ledger) ws
+unfolding Each
+in-table-at counts ledger [] h = tt
+in-table-at counts ledger (w ∷ ws) h = (h .0 .inTable, in-table-at counts ledger ws (h .1))
+
+-- whatever a list of calls writes stands in the page table
+writes-in-table : (m : Machine) (t : Tables) (cs : List Call) → InTable (length (t .ledger)) (writes m t cs)
+unfolding writes Each
+writes-in-table m t [] = tt
+writes-in-table m t (c ∷ cs) =
+    in-table-append (length (t .ledger)) (writesOf (decision m t c)) (writes m (step m t c .tables) cs)
+    (in-table-at (m .pageCounts) (t .ledger) (writesOf (decision m t c)) (writes-at-pages m t c))
+    (subst (λ (k : ℕ). InTable k (writes m (step m t c .tables) cs)) (ledger-length m t c) (writes-in-table m (step m t c .tables) cs))
+
 -- ---- whose page a page is
 
--- what a step writes at the page that it grants or releases
-abbrev entryOf : Option ℕ → ℕ
-entryOf none = 0
-entryOf (some j) = j + 1
-
--- the byte of a page after the last step about it, which was b before all
-abbrev pub byteAfter : ℕ → Option Step → ℕ
+-- the byte of a page after the last write at it, which was b before all
+abbrev pub byteAfter : ℕ → Option Write → ℕ
 byteAfter b none = b
-byteAfter b (some s) = entryOf (givenBy (s .job) (s .answer))
+byteAfter b (some w) = w .byte
 
--- a step about page p writes its entry
-module _ (m : Machine) (t : Tables) (c : Call) (p : ℕ) where
-  about-written : (a : Answer) → step m t c .answer ≡ a → isAbout p a ≡ true
-      → getD (ledgerAfter (jobOf c) (t .ledger) a) p 0 ≡ entryOf (givenBy (jobOf c) a)
-  unfolding isAbout ledgerAfter givenBy
-  about-written (granted n q) e h =
-      subst (λ (x : ℕ). getD (set (t .ledger) q (jobOf c + 1)) x 0 ≡ jobOf c + 1) (eqb-true q p h) (getD-set-same (t .ledger) q (jobOf c + 1) 0 (granted-in-table m t c e))
-  about-written (released n q) e h =
-      subst (λ (x : ℕ). getD (set (t .ledger) q 0) x 0 ≡ 0) (eqb-true q p h) (getD-set-same (t .ledger) q 0 0 (released-in-table m t c e))
-  about-written done e h = absurd (false≢true h)
-  about-written (refused r) e h = absurd (false≢true h)
-
-  -- any other step leaves it
-  other-kept : (a : Answer) → isAbout p a ≡ false → getD (ledgerAfter (jobOf c) (t .ledger) a) p 0 ≡ getD (t .ledger) p 0
-  unfolding isAbout ledgerAfter
-  other-kept (granted n q) h = getD-set-other (t .ledger) q p (jobOf c + 1) 0 (λ e. eqb-false q p h (sym e))
-  other-kept (released n q) h = getD-set-other (t .ledger) q p 0 0 (λ e. eqb-false q p h (sym e))
-  other-kept done h = refl
-  other-kept (refused r) h = refl
-
--- the steps about page p
-abbrev about : ℕ → List Step → List Step
-about p ss = keep (λ s. isAbout p (s .answer)) ss
-
-last-written : (m : Machine) (t : Tables) (cs : List Call) (p b : ℕ) (o : Option Step) → getD (t .ledger) p 0 ≡ byteAfter b o
-    → getD (final m t cs .ledger) p 0 ≡ byteAfter b (lastElse o (about p (steps m t cs)))
-unfolding final lastElse steps keep
-last-written m t [] p b o h = h
-last-written m t (c ∷ cs) p b o h = go (isAbout p (step m t c .answer)) refl (λ o. last-written m (step m t c .tables) cs p b o)
+-- the byte at page p is what the last write at it wrote
+last-written : (ledger : List ℕ) (ws : List Write) (p b : ℕ) (o : Option Write) → InTable (length ledger) ws → getD ledger p 0 ≡ byteAfter b o
+    → getD (afterWrites ledger ws) p 0 ≡ byteAfter b (lastElse o (keep (λ w. eqb (w .page) p) ws))
+unfolding afterWrites lastElse keep Each
+last-written ledger [] p b o i h = h
+last-written ledger (w ∷ ws) p b o i h =
+    go (eqb (w .page) p) refl (λ o. last-written (set ledger (w .page) (w .byte)) ws p b o (rw (length-set ledger (w .page) (w .byte)) (i .1)))
   where
-    now : List Step
-    now = record { job = jobOf c; answer = step m t c .answer } ∷ about p (steps m (step m t c .tables) cs)
+    later : List Write
+    later = keep (λ w. eqb (w .page) p) ws
 
-    go : (d : Bool) → isAbout p (step m t c .answer) ≡ d
-        → ((o : Option Step) → getD (step m t c .tables .ledger) p 0 ≡ byteAfter b o
-        → getD (final m (step m t c .tables) cs .ledger) p 0 ≡ byteAfter b (lastElse o (about p (steps m (step m t c .tables) cs))))
-        → getD (final m (step m t c .tables) cs .ledger) p 0 ≡ byteAfter b (lastElse o (cond d now (about p (steps m (step m t c .tables) cs))))
-    go true e ih = ih _ (ap (λ (l : List ℕ). getD l p 0) (ledger-by-answer m t c) ∙ about-written m t c p (step m t c .answer) refl e)
-    go false e ih = ih o (ap (λ (l : List ℕ). getD l p 0) (ledger-by-answer m t c) ∙ other-kept m t c p (step m t c .answer) e ∙ h)
+    here : eqb (w .page) p ≡ true → getD (set ledger (w .page) (w .byte)) p 0 ≡ w .byte
+    here e = subst (λ (x : ℕ). getD (set ledger (w .page) (w .byte)) x 0 ≡ w .byte) (eqb-true (w .page) p e)
+        (getD-set-same ledger (w .page) (w .byte) 0 (i .0))
 
--- From any page table: the byte of a page at the end is what the last step that granted or released it wrote, else the byte at the start.
-pub last-byte : (m : Machine) (t : Tables) (cs : List Call) (p : ℕ) → getD (final m t cs .ledger) p 0 ≡ byteAfter (getD (t .ledger) p 0) (lastStep m t cs p)
-unfolding lastStep
-last-byte m t cs p = last-written m t cs p (getD (t .ledger) p 0) none refl
+    go : (d : Bool) → eqb (w .page) p ≡ d
+        → ((o : Option Write) → getD (set ledger (w .page) (w .byte)) p 0 ≡ byteAfter b o
+        → getD (afterWrites (set ledger (w .page) (w .byte)) ws) p 0 ≡ byteAfter b (lastElse o later))
+        → getD (afterWrites (set ledger (w .page) (w .byte)) ws) p 0 ≡ byteAfter b (lastElse o (cond d (w ∷ later) later))
+    go true e ih = ih (some w) (here e)
+    go false e ih = ih o (getD-set-other ledger (w .page) p (w .byte) 0 (λ q. eqb-false (w .page) p e (sym q)) ∙ h)
+
+-- From any page table: the byte of a page at the end is what the last write at it wrote, else the byte at the start.
+pub last-byte : (m : Machine) (t : Tables) (cs : List Call) (p : ℕ)
+    → getD (final m t cs .ledger) p 0 ≡ byteAfter (getD (t .ledger) p 0) (lastWrite m t cs p)
+unfolding lastWrite
+last-byte m t cs p =
+    ap (λ (l : List ℕ). getD l p 0) (final-by-writes m t cs)
+    ∙ last-written (t .ledger) (writes m t cs) p (getD (t .ledger) p 0) none (writes-in-table m t cs) refl
 
 zero-byte : (k p : ℕ) → _≡_ {A = ℕ} (getD (replicate k 0) p 0) 0
 zero-byte zero p = refl
 zero-byte (suc k) zero = refl
 zero-byte (suc k) (suc p) = zero-byte k p
 
-owner : (o : Option Step) (j : ℕ) → (byteAfter 0 o ≡ j + 1) ↔ (givenTo o ≡ some j)
-unfolding givenTo
+owner : (o : Option Write) (j : ℕ) → (byteAfter 0 o ≡ j + 1) ↔ (givenTo o ≡ some j)
+unfolding givenTo holder
 owner none j = (λ e. absurd (omega arith), λ e. absurd (let z : _≡_ {A = ℕ} 0 1 = cc in omega arith))
-owner (some s) j = go (givenBy (s .job) (s .answer))
+owner (some w) j = go (w .byte)
   where
-    go : (o : Option ℕ) → (entryOf o ≡ j + 1) ↔ (o ≡ some j)
-    go none = (λ e. absurd (omega arith), λ e. absurd (let z : _≡_ {A = ℕ} 0 1 = cc in omega arith))
-    go (some i) = (λ e. ap (λ (x : ℕ). some x) (omega arith), λ e. let q : i ≡ j = cc in omega arith)
+    go : (b : ℕ) → (b ≡ j + 1) ↔ (holder b ≡ some j)
+    go zero = (λ e. absurd (omega arith), λ e. absurd (let z : _≡_ {A = ℕ} 0 1 = cc in omega arith))
+    go (suc i) = (λ e. ap (λ (x : ℕ). some x) (omega arith), λ e. let q : i ≡ j = cc in omega arith)
 
 -- "From a page table of zeros, changed only by these calls, a page belongs to a job exactly when the last step that granted or released
 -- it gave it to that job."
-pub page-owner : (m : Machine) (k : ℕ) (records : List ℕ) (cs : List Call) (p j : ℕ)
-    → let t : Tables = record { ledger = replicate k 0; records = records } in
-    (getD (final m t cs .ledger) p 0 ≡ j + 1) ↔ (givenTo (lastStep m t cs p) ≡ some j)
+pub page-owner : (m : Machine) (k : ℕ) (records : List ℕ) (cs : List Call) (p j : ℕ) → let t : Tables = tablesOf (replicate k 0) records in
+    (getD (final m t cs .ledger) p 0 ≡ j + 1) ↔ (givenTo (lastWrite m t cs p) ≡ some j)
 page-owner m k records cs p j =
-    let t : Tables = record { ledger = replicate k 0; records = records } in
-    let e : getD (final m t cs .ledger) p 0 ≡ byteAfter 0 (lastStep m t cs p) = last-byte m t cs p ∙ ap (λ (b : ℕ). byteAfter b (lastStep m t cs p)) (zero-byte k p) in
-    rw e (owner (lastStep m t cs p) j)
+    let t : Tables = tablesOf (replicate k 0) records in
+    let e : getD (final m t cs .ledger) p 0 ≡ byteAfter 0 (lastWrite m t cs p) =
+    last-byte m t cs p ∙ ap (λ (b : ℕ). byteAfter b (lastWrite m t cs p)) (zero-byte k p) in
+    rw e (owner (lastWrite m t cs p) j)

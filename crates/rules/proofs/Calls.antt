@@ -3,218 +3,283 @@
 use Prim.Native.Nat.{ℕ, zero, suc, _+_, _≤_, _<_}
 use mathlib.Core.Path.{_≡_, refl, sym, ap, subst, _∙_}
 use mathlib.Core.Logic.{_≢_}
-use mathlib.Core.Bool.{Bool, true, false, not}
+use mathlib.Core.Bool.{true, not}
 use mathlib.Core.Option.{Option, none, some}
-use mathlib.Core.List.{List, [], _∷_, List·Memᴰ·not-nil}
+use mathlib.Core.List.{List, [], _∷_}
 use native.Mathlib.Omega.{arith}
 use borrow.Author.Tests.{eqb-true, eq-eqb, ltb-true, not-true}
-use lib.ListN.{length, getD, drop, length-set}
+use lib.ListN.{length, getD, drop, set, length-set}
 use lib.Seq.{length-sets, drop-set-lt}
 use lib.Dec.{ltb}
-use Rattle.rules.specs.Basics.{any, keep, sum}
+use Rattle.rules.specs.Basics.{Each, sum}
 use Rattle.rules.specs.Machine.{Machine, nodeCount, pagesOf, nodeOfPage, nodeOfCpu}
-use Rattle.rules.specs.Masks.{has}
-use Rattle.rules.specs.Records.{Job, Mode, default, preferred, bind, interleave, list, ring, early, unknownMode, jobAt, putJob}
-use Rattle.rules.specs.SearchOrder.{Try, near, unmoved, tried, target, interleaved, orderIn, order, modeInForce, freePages, hasRoom, pickPage, chosen}
-use Rattle.rules.specs.Calls.{Answer, granted, released, done, refused, Tables, Decision, refuse, accept, unless, isJob, releaseTablesOk}
-use Rattle.rules.specs.Calls.{limitOf, orderOf, holds, requestDecision, installDecision, rebindDecision, releaseDecision, clearDecision}
-use Rattle.rules.specs.Calls.{granting, releasing, storing, onRequest, onRelease, onInstall, onRebind, onClear}
-use Rattle.rules.specs.Book.{Call, request, release, install, rebind, clear, jobOf, withLedger, step, ledgerAfter}
+use Rattle.rules.specs.Masks.{bit, has, both, isNone, below}
+use Rattle.rules.specs.Records.{Record, Policy, Mode, default, preferred, bind, interleave, list, ring, early, unknownMode, carries, modeOf}
+use Rattle.rules.specs.Records.{recordAt, putRecord, fresh, wellFormed, installed, rebound}
+use Rattle.rules.specs.SearchOrder.{Try, Plan, nearest, placed, near, tried, target, interleaved, planIn, plan, modeInForce, order}
+use Rattle.rules.specs.SearchOrder.{freePages, hasRoom, pickPage, chosen}
+use Rattle.rules.specs.Decisions.{Decision, refuse, accept}
+use Rattle.rules.specs.Calls.{granted, released, refused, Tables, Write, Store, Change, afterWrites, afterStores, applied}
+use Rattle.rules.specs.Calls.{granting, freeing, storing, isJob, releaseTablesOk, recordTablesOk, policyKnown, policyFits, rebindFits, holds}
+use Rattle.rules.specs.Calls.{limitOf, orderOf}
+use Rattle.rules.specs.Calls.{releaseDecision, installDecision, rebindDecision, clearDecision}
+use Rattle.rules.specs.Book.{Call, request, release, install, rebind, clear, decision, step}
+use Rattle.rules.specs.Ledger.{writesOf}
 use Rattle.rules.proofs.Admission.{FreePage, isFree, no-room, Passes, accepted}
+use Rattle.rules.proofs.Decisions.{passed}
 use Rattle.rules.proofs.Lists.{_∈_, both-true, keep-member, map-member, FirstOf, first-keep, first-member, first-some}
+use Rattle.rules.proofs.Masks.{bit-and, bit-lt}
 use Rattle.rules.proofs.Sorted.{first-least}
 use Rattle.rules.proofs.Near.{near-allowed}
 use Rattle.rules.proofs.Pages.{member-page, page-member, page-lt, page-node, page-node-lt}
 
--- ---- what each decision leaves
+-- ---- the tests that an accepted call has passed
 
-granting-refused : (m : Machine) (t : Tables) (j : ℕ) (d : Decision Try) (r : ℕ) → granting m t j d .answer ≡ refused r → granting m t j d .tables ≡ t
-unfolding granting
-granting-refused m t j (refuse q) r e = refl
-granting-refused m t j (accept s) r e = absurd (let z : _≡_ {A = ℕ} 0 1 = cc in omega arith)
+-- "install 1, 2, 4, 5, 7, 6"
+pub record InstallPasses (n : ℕ) (records : List ℕ) (j : ℕ) (p : Policy) : Type 0 where
+  pub tablesOk : recordTablesOk n (length records) ≡ true
+  pub job : isJob records j ≡ true
+  pub formed : wellFormed n (recordAt records j) ≡ true
+  pub known : policyKnown p ≡ true
+  pub allowed : not (isNone (recordAt records j .allowed)) ≡ true
+  pub fits : policyFits (carries (modeOf (p .mode))) n (recordAt records j .allowed) p ≡ true
 
-releasing-refused : (t : Tables) (p : ℕ) (d : Decision ℕ) (r : ℕ) → releasing t p d .answer ≡ refused r → releasing t p d .tables ≡ t
-unfolding releasing
-releasing-refused t p (refuse q) r e = refl
-releasing-refused t p (accept s) r e = absurd (let z : _≡_ {A = ℕ} 0 1 = cc in omega arith)
+pub installs : (n : ℕ) (records : List ℕ) (j : ℕ) (p : Policy) {x : Change} → installDecision n records j p ≡ accept x
+    → InstallPasses n records j p × (x ≡ storing j (installed (recordAt records j) p))
+unfolding installDecision
+installs n records j p {x} e =
+    let r = recordAt records j in
+    let a = passed (recordTablesOk n (length records)) 1 _ e in
+    let b = passed (isJob records j) 2 _ (a .1) in
+    let c = passed (wellFormed n r) 4 _ (b .1) in
+    let d = passed (policyKnown p) 5 _ (c .1) in
+    let f = passed (not (isNone (r .allowed))) 7 _ (d .1) in
+    let g = passed (policyFits (carries (modeOf (p .mode))) n (r .allowed) p) 6 _ (f .1) in
+    let same : x ≡ storing j (installed r p) = cc in
+    (record { tablesOk = a .0; job = b .0; formed = c .0; known = d .0; allowed = f .0; fits = g .0 }, same)
 
-storing-refused : (t : Tables) (j : ℕ) (d : Decision Job) (r : ℕ)
-    → withLedger t (storing (t .records) j d) .answer ≡ refused r → withLedger t (storing (t .records) j d) .tables ≡ t
-unfolding withLedger storing
-storing-refused t j (refuse q) r e = refl
-storing-refused t j (accept s) r e = absurd (let z : _≡_ {A = ℕ} 0 1 = cc in omega arith)
+-- "rebind 1, 2, 4, 6, 7, 9"
+pub record RebindPasses (n : ℕ) (records : List ℕ) (j allowed : ℕ) : Type 0 where
+  pub tablesOk : recordTablesOk n (length records) ≡ true
+  pub job : isJob records j ≡ true
+  pub formed : wellFormed n (recordAt records j) ≡ true
+  pub inRange : below n allowed ≡ true
+  pub some-node : not (isNone allowed) ≡ true
+  pub fits : rebindFits (rebound (recordAt records j) allowed) ≡ true
+
+pub rebinds : (n : ℕ) (records : List ℕ) (j allowed : ℕ) {x : Change} → rebindDecision n records j allowed ≡ accept x
+    → RebindPasses n records j allowed × (x ≡ storing j (rebound (recordAt records j) allowed))
+unfolding rebindDecision
+rebinds n records j allowed {x} e =
+    let r = recordAt records j in
+    let a = passed (recordTablesOk n (length records)) 1 _ e in
+    let b = passed (isJob records j) 2 _ (a .1) in
+    let c = passed (wellFormed n r) 4 _ (b .1) in
+    let d = passed (below n allowed) 6 _ (c .1) in
+    let f = passed (not (isNone allowed)) 7 _ (d .1) in
+    let g = passed (rebindFits (rebound r allowed)) 9 _ (f .1) in
+    let same : x ≡ storing j (rebound r allowed) = cc in
+    (record { tablesOk = a .0; job = b .0; formed = c .0; inRange = d .0; some-node = f .0; fits = g .0 }, same)
+
+-- "clear 1, 2"
+pub clears : (n : ℕ) (records : List ℕ) (j : ℕ) {x : Change} → clearDecision n records j ≡ accept x
+    → (isJob records j ≡ true) × (x ≡ storing j fresh)
+unfolding clearDecision
+clears n records j {x} e =
+    let a = passed (recordTablesOk n (length records)) 1 _ e in
+    let b = passed (isJob records j) 2 _ (a .1) in
+    let same : x ≡ storing j fresh = cc in
+    (b .0, same)
+
+-- "release 1, 2, 10"
+pub releases : (counts : List ℕ) (t : Tables) (j p : ℕ) {x : Change} → releaseDecision counts t j p ≡ accept x
+    → (holds counts (t .ledger) j p ≡ true) × (x ≡ freeing counts p)
+unfolding releaseDecision
+releases counts t j p {x} e =
+    let a = passed (releaseTablesOk counts t) 1 _ e in
+    let b = passed (isJob (t .records) j) 2 _ (a .1) in
+    let c = passed (holds counts (t .ledger) j p) 10 _ (b .1) in
+    let same : x ≡ freeing counts p = cc in
+    (c .0, same)
+
+-- What an accepted call is: a request that is granted, a release of a held page, or a call that stores a record.
+pub data Accepted (m : Machine) (t : Tables) (c : Call) (x : Change) : Type 0 where
+  grants : (j k : ℕ) (s : Try) → c ≡ request j k → Passes m t j k → chosen (m .pageCounts) (t .ledger) (orderOf m t j k) ≡ some s
+      → x ≡ granting (m .pageCounts) t j s → Accepted m t c x
+  frees : (j p : ℕ) → c ≡ release j p → holds (m .pageCounts) (t .ledger) j p ≡ true → x ≡ freeing (m .pageCounts) p → Accepted m t c x
+  stores : (j : ℕ) (r : Record) → x ≡ storing j r → Accepted m t c x
+
+-- every accepted call is one of these
+pub accepted-is : (m : Machine) (t : Tables) (c : Call) {x : Change} → decision m t c ≡ accept x → Accepted m t c x
+unfolding decision
+accepted-is m t (request j k) e = let a = accepted m t j k e in grants j k (a .1) refl (a .0) (a .2) (a .3)
+accepted-is m t (release j p) e = let a = releases (m .pageCounts) t j p e in frees j p refl (a .0) (a .1)
+accepted-is m t (install j p) e = stores j _ (installs (nodeCount m) (t .records) j p e .1)
+accepted-is m t (rebind j allowed) e = stores j _ (rebinds (nodeCount m) (t .records) j allowed e .1)
+accepted-is m t (clear j) e = stores j _ (clears (nodeCount m) (t .records) j e .1)
+
+-- ---- refusals
+
+-- the answer of an accepted call is no refusal
+not-refused : {m : Machine} {t : Tables} {c : Call} {x : Change} → Accepted m t c x → (r : ℕ) → x .answer ≡ refused r → ⊥
+not-refused (grants j k s a b d e) r f = let z : _≡_ {A = ℕ} 0 1 = cc in omega arith
+not-refused (frees j p a b e) r f = let z : _≡_ {A = ℕ} 0 1 = cc in omega arith
+not-refused (stores j x e) r f = let z : _≡_ {A = ℕ} 0 1 = cc in omega arith
 
 -- "Every refusal .. leaves all lent memory unchanged"
 pub refused-same : (m : Machine) (t : Tables) (c : Call) (r : ℕ) → step m t c .answer ≡ refused r → step m t c .tables ≡ t
-unfolding step onRequest onRelease onInstall onRebind onClear
-refused-same m t (request j k) r e = granting-refused m t j (requestDecision m t j k) r e
-refused-same m t (release j p) r e = releasing-refused t p (releaseDecision (m .pageCounts) t j p) r e
-refused-same m t (install j mode flag user places) r e =
-    storing-refused t j (installDecision (nodeCount m) (t .records) j mode flag user places) r e
-refused-same m t (rebind j allowed) r e = storing-refused t j (rebindDecision (nodeCount m) (t .records) j allowed) r e
-refused-same m t (clear j) r e = storing-refused t j (clearDecision (nodeCount m) (t .records) j) r e
-
-granting-ledger : (m : Machine) (t : Tables) (j : ℕ) (d : Decision Try)
-    → granting m t j d .tables .ledger ≡ ledgerAfter j (t .ledger) (granting m t j d .answer)
-unfolding granting ledgerAfter
-granting-ledger m t j (refuse r) = refl
-granting-ledger m t j (accept s) = refl
-
-releasing-ledger : (t : Tables) (j p : ℕ) (d : Decision ℕ) → releasing t p d .tables .ledger ≡ ledgerAfter j (t .ledger) (releasing t p d .answer)
-unfolding releasing ledgerAfter
-releasing-ledger t j p (refuse r) = refl
-releasing-ledger t j p (accept n) = refl
-
-storing-ledger : (t : Tables) (j : ℕ) (d : Decision Job) → t .ledger ≡ ledgerAfter j (t .ledger) (storing (t .records) j d .answer)
-unfolding storing ledgerAfter
-storing-ledger t j (refuse r) = refl
-storing-ledger t j (accept n) = refl
-
--- "A grant to job j writes j + 1 at its page in the ledger, a release 0. Nothing else changes the ledger"
-pub ledger-by-answer : (m : Machine) (t : Tables) (c : Call) → step m t c .tables .ledger ≡ ledgerAfter (jobOf c) (t .ledger) (step m t c .answer)
-unfolding step onRequest onRelease onInstall onRebind onClear withLedger jobOf
-ledger-by-answer m t (request j k) = granting-ledger m t j (requestDecision m t j k)
-ledger-by-answer m t (release j p) = releasing-ledger t j p (releaseDecision (m .pageCounts) t j p)
-ledger-by-answer m t (install j mode flag user places) = storing-ledger t j (installDecision (nodeCount m) (t .records) j mode flag user places)
-ledger-by-answer m t (rebind j allowed) = storing-ledger t j (rebindDecision (nodeCount m) (t .records) j allowed)
-ledger-by-answer m t (clear j) = storing-ledger t j (clearDecision (nodeCount m) (t .records) j)
+unfolding step applied
+refused-same m t c r e = go (decision m t c) refl e
+  where
+    go : (d : Decision Change) → decision m t c ≡ d → applied t d .answer ≡ refused r → applied t d .tables ≡ t
+    go (refuse q) f e = refl
+    go (accept x) f e = absurd (not-refused (accepted-is m t c f) r e)
 
 -- ---- the tables keep their lengths
 
-after-length : (j : ℕ) (ledger : List ℕ) (a : Answer) → length (ledgerAfter j ledger a) ≡ length ledger
-unfolding ledgerAfter
-after-length j ledger (granted n p) = length-set ledger p (j + 1)
-after-length j ledger (released n p) = length-set ledger p 0
-after-length j ledger done = refl
-after-length j ledger (refused r) = refl
+-- the ledger after a call is the ledger with what the call writes
+pub ledger-by-writes : (m : Machine) (t : Tables) (c : Call) → step m t c .tables .ledger ≡ afterWrites (t .ledger) (writesOf (decision m t c))
+unfolding step applied writesOf afterWrites
+ledger-by-writes m t c = go (decision m t c)
+  where
+    go : (d : Decision Change) → applied t d .tables .ledger ≡ afterWrites (t .ledger) (writesOf d)
+    go (refuse r) = refl
+    go (accept x) = refl
+
+writes-length : (ledger : List ℕ) (ws : List Write) → length (afterWrites ledger ws) ≡ length ledger
+unfolding afterWrites
+writes-length ledger [] = refl
+writes-length ledger (w ∷ ws) = writes-length (set ledger (w .page) (w .byte)) ws ∙ length-set ledger (w .page) (w .byte)
 
 -- no call makes the page table longer or shorter
 pub ledger-length : (m : Machine) (t : Tables) (c : Call) → length (step m t c .tables .ledger) ≡ length (t .ledger)
-ledger-length m t c = ap length (ledger-by-answer m t c) ∙ after-length (jobOf c) (t .ledger) (step m t c .answer)
+ledger-length m t c = ap length (ledger-by-writes m t c) ∙ writes-length (t .ledger) (writesOf (decision m t c))
 
-put-length : (records : List ℕ) (j : ℕ) (job : Job) → length (putJob records j job) ≡ length records
-unfolding putJob
-put-length records j job = simp length-sets
-
-granting-length : (m : Machine) (t : Tables) (j : ℕ) (d : Decision Try) → length (granting m t j d .tables .records) ≡ length (t .records)
-unfolding granting
-granting-length m t j (refuse r) = refl
-granting-length m t j (accept s) = put-length (t .records) j _
-
-releasing-length : (t : Tables) (p : ℕ) (d : Decision ℕ) → length (releasing t p d .tables .records) ≡ length (t .records)
-unfolding releasing
-releasing-length t p (refuse r) = refl
-releasing-length t p (accept n) = refl
-
-storing-length : (records : List ℕ) (j : ℕ) (d : Decision Job) → length (storing records j d .records) ≡ length records
-unfolding storing
-storing-length records j (refuse r) = refl
-storing-length records j (accept job) = put-length records j job
+stores-length : (records : List ℕ) (ss : List Store) → length (afterStores records ss) ≡ length records
+unfolding afterStores putRecord
+stores-length records [] = refl
+stores-length records (s ∷ ss) = stores-length (putRecord records (s .job) (s .stored)) ss ∙ simp length-sets
 
 -- no call makes the job table longer or shorter
 pub records-length : (m : Machine) (t : Tables) (c : Call) → length (step m t c .tables .records) ≡ length (t .records)
-unfolding step onRequest onRelease onInstall onRebind onClear withLedger
-records-length m t (request j k) = granting-length m t j (requestDecision m t j k)
-records-length m t (release j p) = releasing-length t p (releaseDecision (m .pageCounts) t j p)
-records-length m t (install j mode flag user places) = storing-length (t .records) j (installDecision (nodeCount m) (t .records) j mode flag user places)
-records-length m t (rebind j allowed) = storing-length (t .records) j (rebindDecision (nodeCount m) (t .records) j allowed)
-records-length m t (clear j) = storing-length (t .records) j (clearDecision (nodeCount m) (t .records) j)
+unfolding step applied
+records-length m t c = go (decision m t c)
+  where
+    go : (d : Decision Change) → length (applied t d .tables .records) ≡ length (t .records)
+    go (refuse r) = refl
+    go (accept x) = stores-length (t .records) (x .stores)
 
 -- ---- the search
 
-module _ (m : Machine) (limit : ℕ) (j : Job) where
-  unmoved-allowed : (x : ℕ) {s : Try} → s ∈ unmoved j (near m limit x) → has limit (s .node) ≡ true
-  unfolding unmoved
-  unmoved-allowed x {s} h =
-      let r = map-member _ (near m limit x) h in
-      ap (λ (s : Try). has limit (s .node)) (r .2) ∙ near-allowed m limit x (r .0) (r .1)
+-- a node that two masks share is in the first
+shared-first : (a b k : ℕ) → has (both a b) k ≡ true → has a k ≡ true
+shared-first a b k e = eq-eqb (bit a k) 1 (omega (arith, bit-and a b k, eqb-true (bit (both a b) k) 1 e, bit-lt a k))
 
-  tried-allowed : (ts : List Try) {s : Try} → s ∈ tried m limit ts → has limit (s .node) ≡ true
-  unfolding tried
-  tried-allowed ts {s} h = both-true {a = ltb (s .node) (nodeCount m)} (keep-member _ ts h .1) .1
+-- a plan that looks only at nodes of the limit
+Inside : ℕ → Plan → Type 0
+Inside limit (nearest set x turn) = (k : ℕ) → has set k ≡ true → has limit k ≡ true
+Inside limit (placed ts) = Unit {0}
 
-  bound-allowed : (x : ℕ) (f : ℕ → Bool) {s : Try} → s ∈ unmoved j (keep f (near m limit x)) → has limit (s .node) ≡ true
-  unfolding unmoved
-  bound-allowed x f {s} h =
-      let r = map-member _ (keep f (near m limit x)) h in
-      ap (λ (s : Try). has limit (s .node)) (r .2) ∙ near-allowed m limit x (r .0) (keep-member f (near m limit x) (r .1) .0)
+plan-inside : (mode : Mode) (limit : ℕ) (r : Record) (x : ℕ) → Inside limit (planIn mode limit r x)
+unfolding planIn interleaved Inside
+plan-inside default limit r x = λ k h. h
+plan-inside preferred limit r x = λ k h. h
+plan-inside bind limit r x = λ k h. shared-first limit (r .effective) k h
+plan-inside interleave limit r x = go (target (r .effective) (r .turn .cursor))
+  where
+    go : (o : Option ℕ) → Inside limit (interleaved limit o)
+    go none = tt
+    go (some t) = λ k h. h
+plan-inside list limit r x = tt
+plan-inside ring limit r x = tt
+plan-inside early limit r x = tt
+plan-inside unknownMode limit r x = tt
 
-  interleaved-allowed : (o : Option ℕ) {s : Try} → s ∈ interleaved m limit o → has limit (s .node) ≡ true
-  unfolding interleaved
-  interleaved-allowed none h = absurd (List·Memᴰ·not-nil h)
-  interleaved-allowed (some x) {s} h =
-      let r = map-member _ (near m limit x) h in
-      ap (λ (s : Try). has limit (s .node)) (r .2) ∙ near-allowed m limit x (r .0) (r .1)
+planned-allowed : (n : ℕ) (distances : List ℕ) (limit : ℕ) (p : Plan) → Inside limit p → {s : Try} → s ∈ order n distances limit p
+    → has limit (s .node) ≡ true
+unfolding order tried Inside
+planned-allowed n distances limit (nearest set x turn) i {s} h =
+    let r = map-member _ (near n distances set x) h in
+    ap (λ (s : Try). has limit (s .node)) (r .2) ∙ i (r .0) (near-allowed n distances set x (r .0) (r .1))
+planned-allowed n distances limit (placed ts) i {s} h = both-true {a = ltb (s .node) n} (keep-member _ ts h .1) .1
 
-  in-mode-allowed : (mode : Mode) (x : ℕ) {s : Try} → s ∈ orderIn mode m limit j x → has limit (s .node) ≡ true
-  unfolding orderIn
-  in-mode-allowed default x h = unmoved-allowed x h
-  in-mode-allowed preferred x h = unmoved-allowed _ h
-  in-mode-allowed bind x h = bound-allowed x _ h
-  in-mode-allowed interleave x h = interleaved-allowed (target j) h
-  in-mode-allowed list x h = tried-allowed _ h
-  in-mode-allowed ring x h = tried-allowed _ h
-  in-mode-allowed early x h = tried-allowed _ h
-  in-mode-allowed unknownMode x h = absurd (List·Memᴰ·not-nil h)
-
-  -- every node that a search tries is allowed
-  pub order-allowed : (x : ℕ) {s : Try} → s ∈ order m limit j x → has limit (s .node) ≡ true
-  unfolding order
-  order-allowed x h = in-mode-allowed (modeInForce j) x h
+-- every node that a search tries is allowed
+pub order-allowed : (n : ℕ) (distances : List ℕ) (limit : ℕ) (r : Record) (x : ℕ) {s : Try} → s ∈ order n distances limit (plan limit r x)
+    → has limit (s .node) ≡ true
+unfolding plan
+order-allowed n distances limit r x h = planned-allowed n distances limit (plan limit r x) (plan-inside (modeInForce r) limit r x) h
 
 -- "its lowest free page"
-pub record LowestFree (m : Machine) (ledger : List ℕ) (n p : ℕ) : Type 0 where
-  pub page : FreePage m ledger n p
-  pub lowest : (q : ℕ) → FreePage m ledger n q → p ≤ q
+pub record LowestFree (counts ledger : List ℕ) (n p : ℕ) : Type 0 where
+  pub page : FreePage counts ledger n p
+  pub lowest : (q : ℕ) → FreePage counts ledger n q → p ≤ q
 
-module _ (m : Machine) (ledger : List ℕ) (n : ℕ) where
-  first-lowest : (p : ℕ) → FirstOf (isFree ledger) (pagesOf (m .pageCounts) n) p → LowestFree m ledger n p
+module _ (counts ledger : List ℕ) (n : ℕ) where
+  first-lowest : (p : ℕ) → FirstOf (isFree ledger) (pagesOf counts n) p → LowestFree counts ledger n p
   unfolding pagesOf
   first-lowest p f = record {
-    page = record { ofNode = member-page (m .pageCounts) n (first-member f); free = eqb-true _ 0 (f .passes) };
+    page = record { ofNode = member-page counts n (first-member f); free = eqb-true _ 0 (f .passes) };
     lowest = λ q g. first-least _ _ f q (page-member (g .ofNode)) (eq-eqb _ 0 (g .free));
   }
 
   -- a node with room gives its lowest free page
-  pub picked-lowest : (j : ℕ) → hasRoom m ledger n ≡ true → LowestFree m ledger n (pickPage m ledger j n)
+  pub picked-lowest : (j : ℕ) → hasRoom counts ledger n ≡ true → LowestFree counts ledger n (pickPage counts ledger j n)
   unfolding hasRoom freePages pickPage
-  picked-lowest j e = first-lowest _ (first-keep (isFree ledger) (pagesOf (m .pageCounts) n) (first-some (freePages m ledger n) 0 (not-true _ e)))
+  picked-lowest j e = first-lowest _ (first-keep (isFree ledger) (pagesOf counts n) (first-some (freePages counts ledger n) 0 (not-true _ e)))
 
 -- ---- request
-
-granting-granted : (m : Machine) (t : Tables) (j : ℕ) (d : Decision Try) {n p : ℕ} → granting m t j d .answer ≡ granted n p
-    → (s : Try) × (d ≡ accept s) × (s .node ≡ n) × (pickPage m (t .ledger) j n ≡ p)
-unfolding granting
-granting-granted m t j (refuse r) e = absurd (let z : _≡_ {A = ℕ} 0 1 = cc in omega arith)
-granting-granted m t j (accept s) {n} {p} e =
-    let q : s .node ≡ n = cc in
-    let r : pickPage m (t .ledger) j (s .node) ≡ p = cc in
-    (s, refl, q, ap (pickPage m (t .ledger) j) (sym q) ∙ r)
 
 -- "The first node in the order with a free page grants its lowest free page": what a grant of page p of node n says
 pub record Granted (m : Machine) (t : Tables) (j k n p : ℕ) : Type 0 where
   pub passes : Passes m t j k
   pub served : Try
   pub servedBy : served .node ≡ n
-  pub firstWithRoom : FirstOf (λ s. hasRoom m (t .ledger) (s .node)) (orderOf m t j k) served
-  pub lowest : LowestFree m (t .ledger) n p
+  pub firstWithRoom : FirstOf (λ s. hasRoom (m .pageCounts) (t .ledger) (s .node)) (orderOf m t j k) served
+  pub lowest : LowestFree (m .pageCounts) (t .ledger) n p
   pub allowed : has (limitOf t j) n ≡ true
 
--- a grant is answered only so
+module _ (m : Machine) (t : Tables) (j k : ℕ) where
+  -- the try that serves a request: what it grants
+  pub serves : {s : Try} → Passes m t j k → chosen (m .pageCounts) (t .ledger) (orderOf m t j k) ≡ some s
+      → Granted m t j k (s .node) (pickPage (m .pageCounts) (t .ledger) j (s .node))
+  unfolding chosen orderOf
+  serves {s} a e =
+      let f = first-keep (λ s. hasRoom (m .pageCounts) (t .ledger) (s .node)) (orderOf m t j k) e in
+      record {
+        passes = a;
+        served = s;
+        servedBy = refl;
+        firstWithRoom = f;
+        lowest = picked-lowest (m .pageCounts) (t .ledger) (s .node) j (f .passes);
+        allowed = order-allowed (nodeCount m) (m .distances) (limitOf t j) (recordAt (t .records) j) (nodeOfCpu (m .cpuNodes) k) (first-member f);
+      }
+
+-- a grant, whatever the call, is a request's, and says what the grant of a request says
+pub granted-by : (m : Machine) (t : Tables) (c : Call) {n p : ℕ} → step m t c .answer ≡ granted n p
+    → (j : ℕ) × (k : ℕ) × (c ≡ request j k) × Granted m t j k n p
+unfolding step applied
+granted-by m t c {n} {p} e = go (decision m t c) refl e
+  where
+    by : {x : Change} → Accepted m t c x → x .answer ≡ granted n p → (j : ℕ) × (k : ℕ) × (c ≡ request j k) × Granted m t j k n p
+    by (grants j k s q a b d) e =
+        let node : s .node ≡ n = cc in
+        let page : pickPage (m .pageCounts) (t .ledger) j (s .node) ≡ p = cc in
+        (j, k, q, subst (λ (x : ℕ). Granted m t j k x p) node (subst (Granted m t j k (s .node)) page (serves m t j k a b)))
+    by (frees j q a b d) e = absurd (let z : _≡_ {A = ℕ} 0 1 = cc in omega arith)
+    by (stores j r d) e = absurd (let z : _≡_ {A = ℕ} 0 1 = cc in omega arith)
+
+    go : (d : Decision Change) → decision m t c ≡ d → applied t d .answer ≡ granted n p
+        → (j : ℕ) × (k : ℕ) × (c ≡ request j k) × Granted m t j k n p
+    go (refuse r) f e = absurd (let z : _≡_ {A = ℕ} 0 1 = cc in omega arith)
+    go (accept x) f e = by (accepted-is m t c f) e
+
+-- a request is granted only so
 pub granted-is : (m : Machine) (t : Tables) (j k : ℕ) {n p : ℕ} → step m t (request j k) .answer ≡ granted n p → Granted m t j k n p
-unfolding step onRequest chosen orderOf
 granted-is m t j k {n} {p} e =
-    let g = granting-granted m t j (requestDecision m t j k) e in
-    let a = accepted m t j k (g .1) in
-    let f = first-keep (λ s. hasRoom m (t .ledger) (s .node)) (orderOf m t j k) (a .1) in
-    record {
-      passes = a .0;
-      served = g .0;
-      servedBy = g .2;
-      firstWithRoom = f;
-      lowest = subst (LowestFree m (t .ledger) n) (g .3) (picked-lowest m (t .ledger) n j (ap (hasRoom m (t .ledger)) (sym (g .2)) ∙ f .passes));
-      allowed = ap (has (limitOf t j)) (sym (g .2)) ∙ order-allowed m (limitOf t j) (jobAt (t .records) j) (nodeOfCpu m k) (first-member f);
-    }
+    let g = granted-by m t (request j k) e in
+    let sameJob : g .0 ≡ j = cc in
+    let sameCpu : g .1 ≡ k = cc in
+    subst (λ (x : ℕ). Granted m t x k n p) sameJob (subst (λ (x : ℕ). Granted m t (g .0) x n p) sameCpu (g .3))
 
 -- the page of a grant was free
 pub granted-was-free : {m : Machine} {t : Tables} {j k n p : ℕ} → Granted m t j k n p → getD (t .ledger) p 1 ≡ 0
@@ -234,21 +299,10 @@ granted-node-lt g = page-node-lt (g .lowest .page .ofNode)
 
 -- every node tried before the one that serves had no free page
 pub earlier-full : {m : Machine} {t : Tables} {j k n p : ℕ} (g : Granted m t j k n p) {s : Try} → s ∈ g .firstWithRoom .before
-    → (q : ℕ) → FreePage m (t .ledger) (s .node) q → ⊥
-earlier-full {m} {t} g {s} h = no-room m (t .ledger) (s .node) .0 (g .firstWithRoom .failed s h)
+    → (q : ℕ) → FreePage (m .pageCounts) (t .ledger) (s .node) q → ⊥
+earlier-full {m} {t} g {s} h = no-room (m .pageCounts) (t .ledger) (s .node) .0 (g .firstWithRoom .failed s h)
 
 -- ---- release
-
-three-pass : (a b c : Bool) (n : ℕ) {x : ℕ} → unless a 1 (unless b 2 (unless c 10 (accept n))) ≡ accept x → (c ≡ true) × (n ≡ x)
-three-pass true true true n e = (refl, (cc))
-three-pass true true false n e = absurd (let z : _≡_ {A = ℕ} 0 1 = cc in omega arith)
-three-pass true false c n e = absurd (let z : _≡_ {A = ℕ} 0 1 = cc in omega arith)
-three-pass false b c n e = absurd (let z : _≡_ {A = ℕ} 0 1 = cc in omega arith)
-
-releasing-released : (t : Tables) (p : ℕ) (d : Decision ℕ) {n q : ℕ} → releasing t p d .answer ≡ released n q → (d ≡ accept n) × (p ≡ q)
-unfolding releasing
-releasing-released t p (refuse r) e = absurd (let z : _≡_ {A = ℕ} 0 1 = cc in omega arith)
-releasing-released t p (accept x) e = ((cc), (cc))
 
 -- "10 page number out of range, or not held by this job": what a release of page q of node n says
 pub record Released (m : Machine) (t : Tables) (j p n q : ℕ) : Type 0 where
@@ -257,98 +311,82 @@ pub record Released (m : Machine) (t : Tables) (j p n q : ℕ) : Type 0 where
   pub held : getD (t .ledger) q 0 ≡ j + 1
   pub nodeIs : nodeOfPage (m .pageCounts) q ≡ n
 
+-- a page that a job holds may be released
+pub held-page : (counts ledger : List ℕ) (j p : ℕ) → holds counts ledger j p ≡ true → (p < sum counts) × (getD ledger p 0 ≡ j + 1)
+unfolding holds
+held-page counts ledger j p e =
+    let b = both-true {a = ltb p (sum counts)} e in
+    (ltb-true p (sum counts) (b .0), eqb-true _ (j + 1) (b .1))
+
+-- a released page, whatever the call, is a release's, and says what a release says
+pub released-by : (m : Machine) (t : Tables) (c : Call) {n q : ℕ} → step m t c .answer ≡ released n q
+    → (j : ℕ) × (p : ℕ) × (c ≡ release j p) × Released m t j p n q
+unfolding step applied
+released-by m t c {n} {q} e = go (decision m t c) refl e
+  where
+    by : {x : Change} → Accepted m t c x → x .answer ≡ released n q → (j : ℕ) × (p : ℕ) × (c ≡ release j p) × Released m t j p n q
+    by (grants j k s a b d f) e = absurd (let z : _≡_ {A = ℕ} 0 1 = cc in omega arith)
+    by (frees j p a b d) e =
+        let page : p ≡ q = cc in
+        let node : nodeOfPage (m .pageCounts) p ≡ n = cc in
+        let h = held-page (m .pageCounts) (t .ledger) j p b in
+        (j, p, a, record { asked = page; inRange = rw (sym page) (h .0); held = rw (sym page) (h .1); nodeIs = rw (sym page) node })
+    by (stores j r d) e = absurd (let z : _≡_ {A = ℕ} 0 1 = cc in omega arith)
+
+    go : (d : Decision Change) → decision m t c ≡ d → applied t d .answer ≡ released n q
+        → (j : ℕ) × (p : ℕ) × (c ≡ release j p) × Released m t j p n q
+    go (refuse r) f e = absurd (let z : _≡_ {A = ℕ} 0 1 = cc in omega arith)
+    go (accept x) f e = by (accepted-is m t c f) e
+
 -- a release is answered only so
 pub released-is : (m : Machine) (t : Tables) (j p : ℕ) {n q : ℕ} → step m t (release j p) .answer ≡ released n q → Released m t j p n q
-unfolding step onRelease releaseDecision holds
 released-is m t j p {n} {q} e =
-    let r = releasing-released t p (releaseDecision (m .pageCounts) t j p) e in
-    let a = three-pass (releaseTablesOk (m .pageCounts) t) (isJob (t .records) j) (holds (m .pageCounts) (t .ledger) j p) (nodeOfPage (m .pageCounts) p) (r .0) in
-    let b = both-true (a .0) in
-    record {
-      asked = r .1;
-      inRange = rw (sym (r .1)) (ltb-true p (sum (m .pageCounts)) (b .0));
-      held = rw (sym (r .1)) (eqb-true _ (j + 1) (b .1));
-      nodeIs = rw (sym (r .1)) (a .1);
-    }
+    let g = released-by m t (release j p) e in
+    let sameJob : g .0 ≡ j = cc in
+    let samePage : g .1 ≡ p = cc in
+    subst (λ (x : ℕ). Released m t x p n q) sameJob (subst (λ (x : ℕ). Released m t (g .0) x n q) samePage (g .3))
 
--- ---- which calls grant and release
-
-storing-no-grant : (records : List ℕ) (j : ℕ) (d : Decision Job) {n p : ℕ} → storing records j d .answer ≡ granted n p → ⊥
-unfolding storing
-storing-no-grant records j (refuse r) e = let z : _≡_ {A = ℕ} 0 1 = cc in omega arith
-storing-no-grant records j (accept s) e = let z : _≡_ {A = ℕ} 0 1 = cc in omega arith
-
-storing-no-release : (records : List ℕ) (j : ℕ) (d : Decision Job) {n p : ℕ} → storing records j d .answer ≡ released n p → ⊥
-unfolding storing
-storing-no-release records j (refuse r) e = let z : _≡_ {A = ℕ} 0 1 = cc in omega arith
-storing-no-release records j (accept s) e = let z : _≡_ {A = ℕ} 0 1 = cc in omega arith
-
-granting-no-release : (m : Machine) (t : Tables) (j : ℕ) (d : Decision Try) {n p : ℕ} → granting m t j d .answer ≡ released n p → ⊥
-unfolding granting
-granting-no-release m t j (refuse r) e = let z : _≡_ {A = ℕ} 0 1 = cc in omega arith
-granting-no-release m t j (accept s) e = let z : _≡_ {A = ℕ} 0 1 = cc in omega arith
-
-releasing-no-grant : (t : Tables) (q : ℕ) (d : Decision ℕ) {n p : ℕ} → releasing t q d .answer ≡ granted n p → ⊥
-unfolding releasing
-releasing-no-grant t q (refuse r) e = let z : _≡_ {A = ℕ} 0 1 = cc in omega arith
-releasing-no-grant t q (accept s) e = let z : _≡_ {A = ℕ} 0 1 = cc in omega arith
-
--- only a request is answered by a grant
-pub granted-by-request : (m : Machine) (t : Tables) (c : Call) {n p : ℕ} → step m t c .answer ≡ granted n p → (k : ℕ) × (c ≡ request (jobOf c) k)
-unfolding step onRelease onInstall onRebind onClear withLedger jobOf
-granted-by-request m t (request j k) e = (k, refl)
-granted-by-request m t (release j q) e = absurd (releasing-no-grant t q _ e)
-granted-by-request m t (install j mode flag user places) e = absurd (storing-no-grant (t .records) j _ e)
-granted-by-request m t (rebind j allowed) e = absurd (storing-no-grant (t .records) j _ e)
-granted-by-request m t (clear j) e = absurd (storing-no-grant (t .records) j _ e)
-
--- only a release is answered by a release
-pub released-by-release : (m : Machine) (t : Tables) (c : Call) {n p : ℕ} → step m t c .answer ≡ released n p → (q : ℕ) × (c ≡ release (jobOf c) q)
-unfolding step onRequest onInstall onRebind onClear withLedger jobOf
-released-by-release m t (request j k) e = absurd (granting-no-release m t j _ e)
-released-by-release m t (release j q) e = (q, refl)
-released-by-release m t (install j mode flag user places) e = absurd (storing-no-release (t .records) j _ e)
-released-by-release m t (rebind j allowed) e = absurd (storing-no-release (t .records) j _ e)
-released-by-release m t (clear j) e = absurd (storing-no-release (t .records) j _ e)
+-- ---- what a call writes
 
 in-table : (ledger : List ℕ) (p d v : ℕ) → getD ledger p d ≡ v → v ≢ d → p < length ledger
 in-table [] p d v e n = absurd (n (sym e))
 in-table (x ∷ xs) zero d v e n = omega arith
 in-table (x ∷ xs) (suc p) d v e n = omega (arith, in-table xs p d v e n)
 
--- a grant, whatever the call, says what the grant of a request says
-granted-by : (m : Machine) (t : Tables) (c : Call) {n p : ℕ} → step m t c .answer ≡ granted n p → (k : ℕ) × Granted m t (jobOf c) k n p
-granted-by m t c e =
-    let r = granted-by-request m t c e in
-    (r .0, granted-is m t (jobOf c) (r .0) (ap (λ (c : Call). step m t c .answer) (sym (r .1)) ∙ e))
+-- A write at a page of the machine that is in the table.
+pub record AtPage (counts ledger : List ℕ) (w : Write) : Type 0 where
+  pub ofMachine : w .page < sum counts
+  pub inTable : w .page < length ledger
 
--- and a released page what a release says
-released-by : (m : Machine) (t : Tables) (c : Call) {n p : ℕ} → step m t c .answer ≡ released n p → (q : ℕ) × Released m t (jobOf c) q n p
-released-by m t c e =
-    let r = released-by-release m t c e in
-    (r .0, released-is m t (jobOf c) (r .0) (ap (λ (c : Call). step m t c .answer) (sym (r .1)) ∙ e))
+-- a call writes only at pages of the machine, and in the table
+pub writes-at-pages : (m : Machine) (t : Tables) (c : Call) → Each (AtPage (m .pageCounts) (t .ledger)) (writesOf (decision m t c))
+unfolding writesOf Each
+writes-at-pages m t c = go (decision m t c) refl
+  where
+    by : {x : Change} → Accepted m t c x → Each (AtPage (m .pageCounts) (t .ledger)) (x .writes)
+    by (grants j k s q a b d) =
+        let g = serves m t j k a b in
+        rw d (record { ofMachine = granted-page-lt g; inTable = in-table (t .ledger) _ 1 0 (granted-was-free g) (λ z. omega arith) }, tt)
+    by (frees j p a b d) =
+        let h = held-page (m .pageCounts) (t .ledger) j p b in
+        rw d (record { ofMachine = h .0; inTable = in-table (t .ledger) p 0 (j + 1) (h .1) (λ z. omega arith) }, tt)
+    by (stores j r d) = rw d tt
 
--- a page that is granted is in the table
-pub granted-in-table : (m : Machine) (t : Tables) (c : Call) {n p : ℕ} → step m t c .answer ≡ granted n p → p < length (t .ledger)
-granted-in-table m t c {n} {p} e = in-table (t .ledger) p 1 0 (granted-was-free (granted-by m t c e .1)) (λ z. omega arith)
+    go : (d : Decision Change) → decision m t c ≡ d → Each (AtPage (m .pageCounts) (t .ledger)) (writesOf d)
+    go (refuse r) f = tt
+    go (accept x) f = by (accepted-is m t c f)
 
--- a page that is released is in the table
-pub released-in-table : (m : Machine) (t : Tables) (c : Call) {n p : ℕ} → step m t c .answer ≡ released n p → p < length (t .ledger)
-released-in-table m t c {n} {p} e = in-table (t .ledger) p 0 (jobOf c + 1) (released-by m t c e .1 .held) (λ z. omega arith)
-
--- ---- past the last page
+past-kept : (pages : ℕ) (counts ledger table : List ℕ) (ws : List Write) → Each (AtPage counts table) ws → pages ≡ sum counts
+    → drop pages (afterWrites ledger ws) ≡ drop pages ledger
+unfolding afterWrites Each
+past-kept pages counts ledger table [] h e = refl
+past-kept pages counts ledger table (w ∷ ws) h e =
+    past-kept pages counts (set ledger (w .page) (w .byte)) table ws (h .1) e
+    ∙ drop-set-lt pages ledger (w .page) (w .byte) (rw e (h .0 .ofMachine))
 
 -- "Bytes past the last page are never changed": by any call, on any tables
 pub past-pages-kept : (m : Machine) (t : Tables) (c : Call)
     → drop (sum (m .pageCounts)) (step m t c .tables .ledger) ≡ drop (sum (m .pageCounts)) (t .ledger)
-unfolding ledgerAfter
-past-pages-kept m t c = ap (drop pages) (ledger-by-answer m t c) ∙ go (step m t c .answer) refl
-  where
-    pages : ℕ
-    pages = sum (m .pageCounts)
-
-    go : (a : Answer) → step m t c .answer ≡ a → drop pages (ledgerAfter (jobOf c) (t .ledger) a) ≡ drop pages (t .ledger)
-    go (granted n p) e = drop-set-lt pages (t .ledger) p (jobOf c + 1) (granted-page-lt (granted-by m t c e .1))
-    go (released n p) e = drop-set-lt pages (t .ledger) p 0 (released-by m t c e .1 .inRange)
-    go done e = refl
-    go (refused r) e = refl
+past-pages-kept m t c =
+    ap (drop (sum (m .pageCounts))) (ledger-by-writes m t c)
+    ∙ past-kept (sum (m .pageCounts)) (m .pageCounts) (t .ledger) (t .ledger) _ (writes-at-pages m t c) refl

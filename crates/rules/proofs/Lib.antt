@@ -1,3 +1,4 @@
+pub mod Decisions
 pub mod Admission
 pub mod AllRight
 pub mod Lists
@@ -12,5 +13,6 @@ pub mod Kept
 pub mod Machine
 pub mod Near
 pub mod Pages
+pub mod InOrder
 pub mod Calls
 pub mod Book

@@ -1,14 +1,15 @@
 -- Laws of the words about lists and tests (specs/Basics), over any element type.
 -- Assumes nothing.
-use Prim.Native.Nat.{suc-le-suc, ℕ, zero, suc, _+_, _%_, _≤_, _<_}
+use Prim.Native.Nat.{suc-le-suc, ℕ, zero, suc, _+_, _-_, _%_, _≤_, _<_}
 use mathlib.Core.Path.{_≡_, refl, sym, ap, ap₂, subst, _∙_}
-use mathlib.Core.Logic.{_↔_, ⊎-elim}
-use mathlib.Core.Bool.{Bool, true, false, not, _&&_, _||_, cond, true≢false, false≢true, and-eq-true-iff, or-true}
+use mathlib.Core.Logic.{_↔_, _⊎_, inl, inr, ⊎-elim}
+use mathlib.Core.Bool.{Bool, true, false, not, _&&_, _||_, cond, true≢false, false≢true, and-eq-true-iff, or-true, and-assoc, and-true}
 use mathlib.Mathlib.Data.Bool.Basic.{eq-false-of-not-eq-true}
 use mathlib.Core.Option.{none, some}
 use mathlib.Core.List.{List, [], _∷_, _++_, map, append-assoc, append-nil, List·Memᴰ, List·Memᴰ·head, List·Memᴰ·tail, List·Memᴰ·not-nil}
 use mathlib.Core.List.{List·Memᴰ·cases-cons, List·Memᴰ·append-cases, Memᴰ·append-left, Memᴰ·append-right, Memᴰ·map, Memᴰ·of-map}
 use native.Mathlib.Nat.{not-suc-le-zero, le-of-suc-le-suc, zero-lt-suc, add-zero, eq-or-lt-of-le}
+use native.Mathlib.Numerals.{add-one}
 use native.Mathlib.Omega.{arith}
 use lib.ListN.{length, getD, take, drop, take-append-drop}
 use lib.Dec.{leb}
@@ -29,6 +30,11 @@ both-hold p q = rw (p, q)
 pub either-false : {a b : Bool} → (a || b) ≡ false → (a ≡ false) × (b ≡ false)
 either-false {a = true} {b = b} h = absurd (true≢false h)
 either-false {a = false} {b = b} h = (refl, h)
+
+-- of two tests one holds
+pub either-true : {a b : Bool} → (a || b) ≡ true → (a ≡ true) ⊎ (b ≡ true)
+either-true {a = true} {b = b} h = inl refl
+either-true {a = false} {b = b} h = inr h
 
 -- two tests that hold in the same cases are the same
 pub same-test : {a b : Bool} → (a ≡ true → b ≡ true) → (b ≡ true → a ≡ true) → a ≡ b
@@ -337,3 +343,21 @@ sum-take-suc zero [] = refl
 sum-take-suc zero (x ∷ xs) = omega arith
 sum-take-suc (suc n) [] = refl
 sum-take-suc (suc n) (x ∷ xs) = omega (arith, sum-take-suc n xs)
+
+-- ---- a test over the numbers below n, one by one
+
+module _ (p : ℕ → Bool) where
+  -- one number more is tested
+  pub all-from-step : (n i : ℕ) (ok : Bool) → i < n
+      → (ok && all p (from i (n - i))) ≡ ((ok && p i) && all p (from (i + 1) (n - (i + 1))))
+  unfolding all from
+  all-from-step n i ok h =
+      let e : n - i ≡ suc (n - suc i) = omega arith in
+      rw (add-one i, e, and-assoc)
+
+  -- and all of them are
+  pub all-from-end : (n i : ℕ) (ok : Bool) → n ≤ i → (ok && all p (from i (n - i))) ≡ ok
+  unfolding all from
+  all-from-end n i ok h =
+      let e : n - i ≡ 0 = omega arith in
+      rw e (and-true ok)

@@ -76,7 +76,8 @@ in-order m h =
     let s = both-true (d .1) in
     let q : length (m .distances) ≡ nodeCount m * nodeCount m = eqb-true _ _ (s .0) in
     let each : (i : ℕ) → i < length (m .distances) → distanceOk (nodeCount m) i (getD (m .distances) i 0) ≡ true =
-    λ i l. ap (λ (n : ℕ). distanceOk (nodeCount m) n (getD (m .distances) i 0)) (omega arith) ∙ allAt-true (distanceOk (nodeCount m)) 0 (m .distances) (s .1) i l in
+    λ i l. ap (λ (n : ℕ). distanceOk (nodeCount m) n (getD (m .distances) i 0)) (omega arith)
+    ∙ allAt-true (distanceOk (nodeCount m)) 0 (m .distances) (s .1) i l in
     record {
       counts = counts-in-order (m .pageCounts) (c .0);
       cpusLeast = leb-true 1 (length (m .cpuNodes)) (l .0);

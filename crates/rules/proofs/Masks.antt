@@ -6,7 +6,7 @@ use mathlib.Core.Bool.{Bool, true, false, not, _&&_, _||_, cond, and-false}
 use Prim.Native.Nat.{ℕ, zero, suc, _+_, _-_, _*_, _/_, _%_, _^_, _≤_, _<_, zero-le, suc-le-suc, min, max}
 use native.Mathlib.Nat.{eq-zero-or-pos, pos-of-ne-zero, le-refl, le-trans, lt-of-lt-of-le, lt-of-le-of-lt, le-of-suc-le-suc, not-suc-le-zero, zero-lt-suc}
 use native.Mathlib.Nat.{zero-add, add-zero, add-comm, one-mul, zero-mul, mod-lt, mod-eq-of-lt, div-eq-of-lt, mod-one}
-use native.Mathlib.Numerals.{one-add}
+use native.Mathlib.Numerals.{add-one, one-add}
 use native.Mathlib.Omega.{arith}
 use native.Mathlib.Decide.{le-ind, ℕ-discrete, decLt}
 use native.Mathlib.Nat.{add-suc, lt-of-not-le, eq-or-lt-of-le, div-self, div-one, lt-irrefl, div-lt-iff-lt-mul, sub-le}
@@ -482,6 +482,19 @@ has-maskOf (suc w) p n h =
     (λ e. ap (has (maskOf w p + cond (p w) (2 ^ w) 0)) e ∙ has-top w (maskOf w p) (p w) (maskOf-lt w p) ∙ ap p (sym e))
     (λ l. has-under w n (maskOf w p) (p w) (maskOf-lt w p) l ∙ has-maskOf w p n l)
     (eq-or-lt-of-le (le-of-suc-le-suc h))
+
+-- one turn of a loop that gathers the nodes that pass: node k passes and is put in, or it does not
+pub maskOf-take : (p : ℕ → Bool) (k : ℕ) {out next : ℕ} → p k ≡ true → out ≡ maskOf k p → next ≡ insert out k → next ≡ maskOf (k + 1) p
+unfolding maskOf
+maskOf-take p k t o x =
+    x ∙ ap (λ (m : ℕ). insert m k) o ∙ sym (top-insert k (maskOf k p) (maskOf-lt k p))
+    ∙ ap (λ (b : Bool). maskOf k p + cond b (2 ^ k) 0) (sym t) ∙ sym (ap (λ (n : ℕ). maskOf n p) (add-one k))
+
+-- or node k does not pass and nothing is put in
+pub maskOf-skip : (p : ℕ → Bool) (k : ℕ) {out next : ℕ} → p k ≡ false → out ≡ maskOf k p → next ≡ out → next ≡ maskOf (k + 1) p
+unfolding maskOf
+maskOf-skip p k t o x =
+    x ∙ o ∙ sym (add-zero (maskOf k p)) ∙ ap (λ (b : Bool). maskOf k p + cond b (2 ^ k) 0) (sym t) ∙ sym (ap (λ (n : ℕ). maskOf n p) (add-one k))
 
 -- a mask of w bits whose nodes are those that pass a test is the mask of the test
 pub maskOf-is : (w m : ℕ) (p : ℕ → Bool) → m < 2 ^ w → ((n : ℕ) → n < w → has m n ≡ p n) → m ≡ maskOf w p

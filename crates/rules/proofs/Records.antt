@@ -11,19 +11,20 @@ use lib.Arith.{digits-mod, lt-of-le-ne}
 use lib.ListN.{length, getD, take, drop, set, replicate, length-append, length-take, length-drop, length-replicate, take-append-drop}
 use lib.Pow.{high, split, mod-pow-add}
 use lib.Seq.{sets, sets-eq, length-sets, getD-set-other, set-getD, getD-take, getD-drop, take-at, drop-at, length-take-le}
-use Rattle.rules.specs.Records.{wordsPerJob, placesPerJob, Job, bytesOf, fromBytes, decode, encode, jobCount, jobAt, putJob, fresh, installed, rebound, withCursor}
+use Rattle.rules.specs.Records.{wordsPerJob, placesPerJob, Policy, Turn, Record, bytesOf, fromBytes, decode, encode, jobCount, recordAt, putRecord}
+use Rattle.rules.specs.Records.{fresh, installed, rebound, withTurn}
 use Rattle.rules.proofs.Bytes.{AreBytes, bytes-length, bytes-small, from-bytes, bytes-from, take-bytes, drop-bytes, append-bytes}
 
 -- ---- the record that six words hold
 
 -- What six words can hold: fields of one byte each, and sixteen bytes.
-pub record Storable (j : Job) : Type 0 where
-  pub mode-fits : j .mode < 256
-  pub flag-fits : j .flag < 256
-  pub len-fits : j .len < 256
-  pub cursor-fits : j .cursor < 256
-  pub sixteen : length (j .bytes) ≡ placesPerJob
-  pub are-bytes : AreBytes (j .bytes)
+pub record Storable (r : Record) : Type 0 where
+  pub mode-fits : r .mode < 256
+  pub flag-fits : r .flag < 256
+  pub len-fits : r .len < 256
+  pub cursor-fits : r .turn .cursor < 256
+  pub sixteen : length (r .bytes) ≡ placesPerJob
+  pub are-bytes : AreBytes (r .bytes)
 
 -- every record that was read can be stored
 pub decoded-storable : (w : List ℕ) → Storable (decode w)
@@ -38,37 +39,40 @@ decoded-storable w = record {
 }
 
 -- every record of the table can be stored
-pub job-storable : (t : List ℕ) (j : ℕ) → Storable (jobAt t j)
-unfolding jobAt
-job-storable t j = decoded-storable (take wordsPerJob (drop (wordsPerJob * j) t))
+pub record-storable : (t : List ℕ) (j : ℕ) → Storable (recordAt t j)
+unfolding recordAt
+record-storable t j = decoded-storable (take wordsPerJob (drop (wordsPerJob * j) t))
 
 -- a fresh record can be stored
 pub fresh-storable : Storable fresh
 unfolding fresh
 fresh-storable = decoded-storable (replicate wordsPerJob 0)
 
+-- zeros are bytes
 zeros-bytes : (n : ℕ) → AreBytes (replicate n 0)
 zeros-bytes zero k = omega arith
 zeros-bytes (suc n) zero = omega arith
 zeros-bytes (suc n) (suc k) = zeros-bytes n k
 
 -- what install stores can be stored: mode and flag of one byte, at most 255 places, each a byte
-pub installed-storable : (j : Job) (mode flag user : ℕ) (places : List ℕ) → mode < 256 → flag < 256 → length places < 256 → AreBytes places
-    → Storable (installed j mode flag user places)
+pub installed-storable : (r : Record) (p : Policy) → p .mode < 256 → p .flag < 256 → length (p .places) < 256 → AreBytes (p .places)
+    → Storable (installed r p)
 unfolding installed
-installed-storable j mode flag user places hm hf hl hb = record {
+installed-storable r p hm hf hl hb = record {
   mode-fits = hm;
   flag-fits = hf;
   len-fits = hl;
   cursor-fits = omega arith;
   sixteen = simp (length-take, length-append, length-replicate) (omega arith);
-  are-bytes = take-bytes placesPerJob (places ++ replicate placesPerJob 0) (append-bytes places (replicate placesPerJob 0) hb (zeros-bytes placesPerJob));
+  are-bytes =
+      take-bytes placesPerJob (p .places ++ replicate placesPerJob 0)
+      (append-bytes (p .places) (replicate placesPerJob 0) hb (zeros-bytes placesPerJob));
 }
 
 -- what rebind stores can be stored
-pub rebound-storable : (j : Job) (new : ℕ) → Storable j → Storable (rebound j new)
+pub rebound-storable : (r : Record) (new : ℕ) → Storable r → Storable (rebound r new)
 unfolding rebound
-rebound-storable j new s = record {
+rebound-storable r new s = record {
   mode-fits = s .mode-fits;
   flag-fits = s .flag-fits;
   len-fits = s .len-fits;
@@ -77,10 +81,10 @@ rebound-storable j new s = record {
   are-bytes = s .are-bytes;
 }
 
--- a record with another cursor of one byte can be stored
-pub cursor-storable : (j : Job) (c : ℕ) → Storable j → c < 256 → Storable (withCursor j c)
-unfolding withCursor
-cursor-storable j c s h = record {
+-- a record with another turn, its cursor field of one byte, can be stored
+pub turn-storable : (r : Record) (t : Turn) → Storable r → t .cursor < 256 → Storable (withTurn r t)
+unfolding withTurn
+turn-storable r t s h = record {
   mode-fits = s .mode-fits;
   flag-fits = s .flag-fits;
   len-fits = s .len-fits;
@@ -96,6 +100,7 @@ byte-of-word : (k lo d hi w : ℕ) → lo < 2 ^ k → d < 256 → w ≡ (hi * 25
 byte-of-word k lo d hi w h l e =
     ap (λ (x : ℕ). x / 2 ^ k % 256) e ∙ ap (λ (x : ℕ). x % 256) (high (hi * 256 + d) k h) ∙ digits-mod hi l
 
+-- sixteen bytes stored as two words are read back
 places-again : (bs : List ℕ) → length bs ≡ placesPerJob → AreBytes bs
     → bytesOf 8 (fromBytes (take 8 bs)) ++ bytesOf 8 (fromBytes (drop 8 bs)) ≡ bs
 places-again bs l h =
@@ -105,34 +110,33 @@ places-again bs l h =
     ∙ take-append-drop 8 bs
 
 -- a record that was stored is read back
-pub decode-encode : (j : Job) → Storable j → decode (encode j) ≡ j
+pub decode-encode : (r : Record) → Storable r → decode (encode r) ≡ r
 unfolding decode encode
-decode-encode j s =
-    let m = j .mode in
-    let f = j .flag in
-    let l = j .len in
-    let c = j .cursor in
-    let r = j .rest in
-    let w = m + f * 2 ^ 8 + l * 2 ^ 16 + c * 2 ^ 24 + r * 2 ^ 32 in
+decode-encode r s =
+    let m = r .mode in
+    let f = r .flag in
+    let l = r .len in
+    let c = r .turn .cursor in
+    let h = r .turn .rest in
+    let w = m + f * 2 ^ 8 + l * 2 ^ 16 + c * 2 ^ 24 + h * 2 ^ 32 in
     let hm : m < 256 = s .mode-fits in
     let hf : f < 256 = s .flag-fits in
     let hl : l < 256 = s .len-fits in
     let hc : c < 256 = s .cursor-fits in
     let e₀ : w % 256 ≡ m = omega arith in
-    let e₁ : w / 2 ^ 8 % 256 ≡ f = byte-of-word 8 m f (l + c * 2 ^ 8 + r * 2 ^ 16) w (omega arith) hf (omega arith) in
-    let e₂ : w / 2 ^ 16 % 256 ≡ l = byte-of-word 16 (m + f * 2 ^ 8) l (c + r * 2 ^ 8) w (omega arith) hl (omega arith) in
-    let e₃ : w / 2 ^ 24 % 256 ≡ c = byte-of-word 24 (m + f * 2 ^ 8 + l * 2 ^ 16) c r w (omega arith) hc (omega arith) in
-    let e₄ : w / 2 ^ 32 ≡ r = omega arith in
+    let e₁ : w / 2 ^ 8 % 256 ≡ f = byte-of-word 8 m f (l + c * 2 ^ 8 + h * 2 ^ 16) w (omega arith) hf (omega arith) in
+    let e₂ : w / 2 ^ 16 % 256 ≡ l = byte-of-word 16 (m + f * 2 ^ 8) l (c + h * 2 ^ 8) w (omega arith) hl (omega arith) in
+    let e₃ : w / 2 ^ 24 % 256 ≡ c = byte-of-word 24 (m + f * 2 ^ 8 + l * 2 ^ 16) c h w (omega arith) hc (omega arith) in
+    let e₄ : w / 2 ^ 32 ≡ h = omega arith in
     λ i. record {
       mode = e₀ i;
       flag = e₁ i;
       len = e₂ i;
-      cursor = e₃ i;
-      rest = e₄ i;
-      user = j .user;
-      allowed = j .allowed;
-      effective = j .effective;
-      bytes = places-again (j .bytes) (s .sixteen) (s .are-bytes) i;
+      turn = record { cursor = e₃ i; rest = e₄ i };
+      user = r .user;
+      allowed = r .allowed;
+      effective = r .effective;
+      bytes = places-again (r .bytes) (s .sixteen) (s .are-bytes) i;
     }
 
 -- word 0 by its fields, the lowest three taken together
@@ -142,6 +146,7 @@ low-fields w = go (w % 256) (w / 2 ^ 8 % 256) (w / 2 ^ 16 % 256) (w % 2 ^ 16) (w
     go : (a b c x y : ℕ) → x ≡ b * 2 ^ 8 + a → y ≡ c * 2 ^ 16 + x → a + b * 2 ^ 8 + c * 2 ^ 16 ≡ y
     go a b c x y e f = omega arith
 
+-- word 0 by all its fields
 all-fields : (w : ℕ) → w % 256 + w / 2 ^ 8 % 256 * 2 ^ 8 + w / 2 ^ 16 % 256 * 2 ^ 16 + w / 2 ^ 24 % 256 * 2 ^ 24 + w / 2 ^ 32 * 2 ^ 32 ≡ w
 all-fields w = rw low-fields (go (w % 2 ^ 24) (w / 2 ^ 24 % 256) (w % 2 ^ 32) (w / 2 ^ 32) (mod-pow-add w 8 24) (split w 32))
   where
@@ -174,39 +179,40 @@ abbrev pub wordsFrom : ℕ → ℕ → List ℕ → List ℕ
 wordsFrom zero i t = []
 wordsFrom (suc n) i t = getD t i 0 ∷ wordsFrom n (suc i) t
 
+-- word k of those words
 words-at : (n i : ℕ) (t : List ℕ) (k : ℕ) → k < n → getD (wordsFrom n i t) k 0 ≡ getD t (i + k) 0
 words-at zero i t k h = absurd (not-suc-le-zero h)
 words-at (suc n) i t zero h = ap (λ (x : ℕ). getD t x 0) (sym (add-zero i))
 words-at (suc n) i t (suc k) h = words-at n (suc i) t k (le-of-suc-le-suc h) ∙ ap (λ (x : ℕ). getD t x 0) (omega arith)
 
 -- a job's record by its six words, as they stand in the table
-pub job-words : (t : List ℕ) (j : ℕ) → jobAt t j ≡ decode (wordsFrom wordsPerJob (wordsPerJob * j) t)
-unfolding jobAt
-job-words t j =
+pub record-words : (t : List ℕ) (j : ℕ) → recordAt t j ≡ decode (wordsFrom wordsPerJob (wordsPerJob * j) t)
+unfolding recordAt
+record-words t j =
     decode-same (take wordsPerJob (drop (wordsPerJob * j) t)) (wordsFrom wordsPerJob (wordsPerJob * j) t)
     (λ k h. getD-take wordsPerJob (drop (wordsPerJob * j) t) k 0 h ∙ getD-drop (wordsPerJob * j) t k 0 ∙ sym (words-at wordsPerJob (wordsPerJob * j) t k h))
 
 -- to store a record leaves the table as long as it was
-pub length-put : (t : List ℕ) (j : ℕ) (x : Job) → length (putJob t j x) ≡ length t
-unfolding putJob
-length-put t j x = length-sets t (wordsPerJob * j) (encode x)
+pub length-put : (t : List ℕ) (j : ℕ) (r : Record) → length (putRecord t j r) ≡ length t
+unfolding putRecord
+length-put t j r = length-sets t (wordsPerJob * j) (encode r)
 
 -- a job of the table has its six words there
-pub job-fits : (words j : ℕ) → j < jobCount words → wordsPerJob * j + wordsPerJob ≤ words
+job-fits : (words j : ℕ) → j < jobCount words → wordsPerJob * j + wordsPerJob ≤ words
 job-fits words j h = omega arith
 
 -- the record stored for a job is the one read for it
-pub job-same : (t : List ℕ) (j : ℕ) (x : Job) → j < jobCount (length t) → Storable x → jobAt (putJob t j x) j ≡ x
-unfolding jobAt putJob encode
-job-same t j x h s =
+pub record-same : (t : List ℕ) (j : ℕ) (r : Record) → j < jobCount (length t) → Storable r → recordAt (putRecord t j r) j ≡ r
+unfolding recordAt putRecord encode
+record-same t j r h s =
     let at = wordsPerJob * j in
     let fits : at + wordsPerJob ≤ length t = job-fits (length t) j h in
     let front : length (take at t) ≡ at = length-take-le at t (omega arith) in
     let back = drop (at + wordsPerJob) t in
-    ap (λ (l : List ℕ). decode (take wordsPerJob (drop at l))) (sets-eq (encode x) t at fits ∙ append-assoc (take at t) (encode x) back)
-    ∙ ap (λ (l : List ℕ). decode (take wordsPerJob l)) (drop-at (take at t) (encode x ++ back) at front)
-    ∙ ap decode (take-at (encode x) back wordsPerJob refl)
-    ∙ decode-encode x s
+    ap (λ (l : List ℕ). decode (take wordsPerJob (drop at l))) (sets-eq (encode r) t at fits ∙ append-assoc (take at t) (encode r) back)
+    ∙ ap (λ (l : List ℕ). decode (take wordsPerJob l)) (drop-at (take at t) (encode r ++ back) at front)
+    ∙ ap decode (take-at (encode r) back wordsPerJob refl)
+    ∙ decode-encode r s
 
 -- a run of stores leaves the words before it and after it
 sets-other : (l : List ℕ) (i : ℕ) (vs : List ℕ) (k : ℕ) → (k < i) ⊎ (i + length vs ≤ k) → getD (sets l i vs) k 0 ≡ getD l k 0
@@ -217,22 +223,22 @@ sets-other l i (v ∷ vs) k (inr h) =
     sets-other (set l i v) (suc i) vs k (inr (omega arith)) ∙ getD-set-other l i k v 0 (λ e. omega arith)
 
 -- to store a job's record leaves every other job's
-pub job-other : (t : List ℕ) (i j : ℕ) (x : Job) → i ≢ j → jobAt (putJob t i x) j ≡ jobAt t j
-unfolding putJob encode
-job-other t i j x ne =
-    let u = sets t (wordsPerJob * i) (encode x) in
-    job-words u j
+pub record-other : (t : List ℕ) (i j : ℕ) (r : Record) → i ≢ j → recordAt (putRecord t i r) j ≡ recordAt t j
+unfolding putRecord encode
+record-other t i j r ne =
+    let u = sets t (wordsPerJob * i) (encode r) in
+    record-words u j
     ∙ decode-same (wordsFrom wordsPerJob (wordsPerJob * j) u) (wordsFrom wordsPerJob (wordsPerJob * j) t)
     (λ k h. words-at wordsPerJob (wordsPerJob * j) u k h
-    ∙ sets-other t (wordsPerJob * i) (encode x) (wordsPerJob * j + k) (apart k h (decLt j i))
+    ∙ sets-other t (wordsPerJob * i) (encode r) (wordsPerJob * j + k) (apart k h (decLt j i))
     ∙ sym (words-at wordsPerJob (wordsPerJob * j) t k h))
-    ∙ sym (job-words t j)
+    ∙ sym (record-words t j)
   where
     apart : (k : ℕ) → k < wordsPerJob → Dec (j < i) → (wordsPerJob * j + k < wordsPerJob * i) ⊎ (wordsPerJob * i + wordsPerJob ≤ wordsPerJob * j + k)
     apart k h (yes l) = inl (omega arith)
     apart k h (no l) = inr (let g : i < j = lt-of-le-ne (omega arith) ne in omega arith)
 
--- ---- a record with another cursor
+-- ---- a record with another turn
 
 -- to store what is there changes nothing
 sets-same : (n i : ℕ) (l : List ℕ) → sets l i (wordsFrom n i l) ≡ l
@@ -244,14 +250,15 @@ words-past : (n i k : ℕ) (v : ℕ) (l : List ℕ) → k < i → wordsFrom n i 
 words-past zero i k v l h = refl
 words-past (suc n) i k v l h = ap₂ (λ (x : ℕ) (xs : List ℕ). x ∷ xs) (getD-set-other l k i v 0 (λ e. omega arith)) (words-past n (suc i) k v l (omega arith))
 
--- word 0 with c for its cursor: bits 24 to 31
-abbrev pub cursorWord : ℕ → ℕ → ℕ
-cursorWord w c = w % 2 ^ 24 + c * 2 ^ 24 + w / 2 ^ 32 * 2 ^ 32
+-- word 0 with another turn: bits 24 up
+abbrev pub turnWord : ℕ → Turn → ℕ
+turnWord w turn = w % 2 ^ 24 + turn .cursor * 2 ^ 24 + turn .rest * 2 ^ 32
 
-cursor-words : (t : List ℕ) (i c : ℕ) → ((k : ℕ) → getD t k 0 < 2 ^ 64)
-    → encode (withCursor (decode (wordsFrom wordsPerJob i t)) c) ≡ cursorWord (getD t i 0) c ∷ wordsFrom 5 (suc i) t
-unfolding encode decode withCursor
-cursor-words t i c h =
+-- the six words of a record with another turn are those that were read, but word 0
+turn-words : (t : List ℕ) (i : ℕ) (turn : Turn) → ((k : ℕ) → getD t k 0 < 2 ^ 64)
+    → encode (withTurn (decode (wordsFrom wordsPerJob i t)) turn) ≡ turnWord (getD t i 0) turn ∷ wordsFrom 5 (suc i) t
+unfolding encode decode withTurn
+turn-words t i turn h =
     let k = suc (suc (suc (suc i))) in
     let low = getD t k 0 in
     let high = getD t (suc k) 0 in
@@ -263,14 +270,14 @@ cursor-words t i c h =
       from-bytes 8 high (h (suc k)),
     )
 
--- in a table of 64-bit words, a record with another cursor differs in one word
-pub put-cursor : (t : List ℕ) (j c : ℕ) → ((k : ℕ) → getD t k 0 < 2 ^ 64)
-    → putJob t j (withCursor (jobAt t j) c) ≡ set t (wordsPerJob * j) (cursorWord (getD t (wordsPerJob * j) 0) c)
-unfolding putJob
-put-cursor t j c h =
+-- in a table of 64-bit words, a record with another turn differs in one word
+pub put-turn : (t : List ℕ) (j : ℕ) (turn : Turn) → ((k : ℕ) → getD t k 0 < 2 ^ 64)
+    → putRecord t j (withTurn (recordAt t j) turn) ≡ set t (wordsPerJob * j) (turnWord (getD t (wordsPerJob * j) 0) turn)
+unfolding putRecord
+put-turn t j turn h =
     let at = wordsPerJob * j in
-    let w = cursorWord (getD t at 0) c in
-    ap (λ (x : Job). sets t at (encode (withCursor x c))) (job-words t j)
-    ∙ ap (sets t at) (cursor-words t at c h)
+    let w = turnWord (getD t at 0) turn in
+    ap (λ (r : Record). sets t at (encode (withTurn r turn))) (record-words t j)
+    ∙ ap (sets t at) (turn-words t at turn h)
     ∙ ap (sets (set t at w) (suc at)) (sym (words-past 5 (suc at) at w t (omega arith)))
     ∙ sets-same 5 (suc at) (set t at w)

@@ -1,9 +1,9 @@
 -- Document 01, "A record is well formed if ..": what the test comes to, and that every call leaves a well-formed record well formed.
 -- Assumes nothing.
 use Prim.Native.Nat.{ℕ, zero, suc, _+_, _-_, _^_, _≤_, _<_, zero-le}
-use mathlib.Core.Path.{_≡_, refl, ap, _∙_}
+use mathlib.Core.Path.{_≡_, refl, sym, ap, _∙_}
 use mathlib.Core.Logic.{_⊎_, inl, inr}
-use mathlib.Core.Bool.{Bool, true, false, not, _&&_, _||_, cond, false≢true}
+use mathlib.Core.Bool.{Bool, true, false, not, _&&_, _||_, cond, false≢true, or-true, or-false}
 use mathlib.Core.List.{List, _++_}
 use native.Mathlib.Nat.{le-trans, lt-of-lt-of-le, lt-of-le-of-lt, le-of-eq}
 use native.Mathlib.Omega.{arith}
@@ -15,66 +15,66 @@ use lib.Seq.{drop-at, take-append-add}
 use borrow.Author.Tests.{ltb-true, leb-true, eqb-true, lt-ltb, le-leb, eq-eqb, ne-eqb}
 use Rattle.rules.specs.Basics.{all, between, openBasics}
 use Rattle.rules.specs.Masks.{maskBits, isNone, below, both, within, image, folded, remapped, remappedTo}
-use Rattle.rules.specs.Records.{Mode, default, preferred, bind, interleave, list, ring, early, unknownMode, Flag, plain, static, relative, unknownFlag, Carries, nothing, aMask, aList, unknown, carries, modeOf, flagOf, placesPerJob, Job, decode, encode, fresh, unusedZero, modeKnown, flagKnown, allowedFits, cursorLimit, cursorFits, noMasks, effectiveFits, masksFit, dataFits, wellFormed, effectiveAtInstall, installed, effectiveAtRebind, rebound, openRecords}
+use Rattle.rules.specs.Records.{Flag, plain, static, relative, unknownFlag, flagOf, flagKnown, Carries, nothing, aMask, aList, unknown, carries}
+use Rattle.rules.specs.Records.{Cursor, noCursor, aNode, aPlace, rowOf, modeOf, isKnown, modeKnown, placesPerJob, Policy, Record, decode, encode, fresh}
+use Rattle.rules.specs.Records.{unusedZero, allowedFits, cursorLimit, cursorFits, noMasks, effectiveFits, masksFit, dataFits, wellFormed}
+use Rattle.rules.specs.Records.{effectiveAtInstall, installed, effectiveAtRebind, rebound, openRecords}
 use Rattle.rules.specs.Calls.{flagFits, policyKnown, maskFits, policyFits}
 use Rattle.rules.proofs.Bytes.{AreBytes}
-use Rattle.rules.proofs.Lists.{both-true, both-hold}
+use Rattle.rules.proofs.Lists.{both-true, both-hold, either-true}
 use Rattle.rules.proofs.Masks.{image-out, bit-above, bit-lt, bit-and, bits-within, folded-within, remapped-within, remapped-pos}
 use Rattle.rules.proofs.Records.{Storable, decode-encode}
 
 -- ---- tests that passed
 
-or-cases : (a b : Bool) → (a || b) ≡ true → (a ≡ true) ⊎ (b ≡ true)
-or-cases true b e = inl refl
-or-cases false b e = inr e
-
--- a mask that is not empty
+-- a mask that is not empty is above 0
 pub some-pos : (m : ℕ) → not (isNone m) ≡ true → 0 < m
 some-pos zero e = absurd (false≢true e)
 some-pos (suc m) e = omega arith
 
+-- a mask above 0 is not empty
 pos-some : (m : ℕ) → 0 < m → not (isNone m) ≡ true
 pos-some m h = ap not (ne-eqb m 0 (λ e. omega arith))
 
 -- ---- what the test comes to
 
 -- The facts of a well-formed record.
-pub record Formed (n : ℕ) (j : Job) : Type 0 where
-  pub unused-zero : unusedZero j ≡ true
-  pub mode-known : modeKnown (modeOf (j .mode)) ≡ true
-  pub flag-known : flagKnown (flagOf (j .flag)) ≡ true
-  pub allowed-below : j .allowed < 2 ^ n
-  pub allowed-some : (j .mode ≡ 0) ⊎ (0 < j .allowed)
-  pub cursor-within : j .cursor ≤ cursorLimit n (j .len) (modeOf (j .mode))
-  pub data-fits : dataFits n j (carries (modeOf (j .mode))) ≡ true
+pub record Formed (n : ℕ) (r : Record) : Type 0 where
+  pub unused-zero : unusedZero r ≡ true
+  pub mode-known : modeKnown (modeOf (r .mode)) ≡ true
+  pub flag-known : flagKnown (flagOf (r .flag)) ≡ true
+  pub allowed-below : r .allowed < 2 ^ n
+  pub allowed-some : (r .mode ≡ 0) ⊎ (0 < r .allowed)
+  pub cursor-within : r .turn .cursor ≤ cursorLimit n (r .len) (rowOf (modeOf (r .mode)) .cursor)
+  pub data-fits : dataFits n r (carries (modeOf (r .mode))) ≡ true
 
 -- the allowed mask of a record that passes lies below N and, but in mode 0, is not empty
-pub allowed-facts : (n : ℕ) (j : Job) → allowedFits n j ≡ true → (j .allowed < 2 ^ n) × ((j .mode ≡ 0) ⊎ (0 < j .allowed))
+pub allowed-facts : (n : ℕ) (r : Record) → allowedFits n r ≡ true → (r .allowed < 2 ^ n) × ((r .mode ≡ 0) ⊎ (0 < r .allowed))
 unfolding allowedFits
-allowed-facts n j e =
-    let p = both-true {a = below n (j .allowed)} {b = eqb (j .mode) 0 || not (isNone (j .allowed))} e in
-    (ltb-true (j .allowed) (2 ^ n) (p .0), cases (or-cases (eqb (j .mode) 0) (not (isNone (j .allowed))) (p .1)))
+allowed-facts n r e =
+    let p = both-true {a = below n (r .allowed)} {b = eqb (r .mode) 0 || not (isNone (r .allowed))} e in
+    (ltb-true (r .allowed) (2 ^ n) (p .0), cases (either-true {a = eqb (r .mode) 0} {b = not (isNone (r .allowed))} (p .1)))
   where
-    cases : (eqb (j .mode) 0 ≡ true) ⊎ (not (isNone (j .allowed)) ≡ true) → (j .mode ≡ 0) ⊎ (0 < j .allowed)
-    cases (inl x) = inl (eqb-true (j .mode) 0 x)
-    cases (inr x) = inr (some-pos (j .allowed) x)
+    cases : (eqb (r .mode) 0 ≡ true) ⊎ (not (isNone (r .allowed)) ≡ true) → (r .mode ≡ 0) ⊎ (0 < r .allowed)
+    cases (inl x) = inl (eqb-true (r .mode) 0 x)
+    cases (inr x) = inr (some-pos (r .allowed) x)
 
 -- a record that passes the test has these facts
-pub formed : (n : ℕ) (j : Job) → wellFormed n j ≡ true → Formed n j
+pub formed : (n : ℕ) (r : Record) → wellFormed n r ≡ true → Formed n r
 unfolding wellFormed cursorFits
-formed n j e =
-    let u = unusedZero j in
-    let m = modeKnown (modeOf (j .mode)) in
-    let f = flagKnown (flagOf (j .flag)) in
-    let a = allowedFits n j in
-    let c = cursorFits n j in
-    let d = dataFits n j (carries (modeOf (j .mode))) in
+formed n r e =
+    let u = unusedZero r in
+    let m = modeKnown (modeOf (r .mode)) in
+    let f = flagKnown (flagOf (r .flag)) in
+    let a = allowedFits n r in
+    let c = cursorFits n r in
+    let d = dataFits n r (carries (modeOf (r .mode))) in
     let e₅ = both-true {a = u && m && f && a && c} {b = d} e in
     let e₄ = both-true {a = u && m && f && a} {b = c} (e₅ .0) in
     let e₃ = both-true {a = u && m && f} {b = a} (e₄ .0) in
     let e₂ = both-true {a = u && m} {b = f} (e₃ .0) in
     let e₁ = both-true {a = u} {b = m} (e₂ .0) in
-    let low = allowed-facts n j (e₃ .1) in
+    let low = allowed-facts n r (e₃ .1) in
     record {
       unused-zero = e₁ .0;
       mode-known = e₁ .1;
@@ -86,60 +86,56 @@ formed n j e =
     }
 
 -- and one that has them passes it
-pub well-formed : (n : ℕ) (j : Job) → Formed n j → wellFormed n j ≡ true
+pub well-formed : (n : ℕ) (r : Record) → Formed n r → wellFormed n r ≡ true
 unfolding wellFormed allowedFits cursorFits
-well-formed n j h =
+well-formed n r h =
     both-hold (both-hold (both-hold (both-hold (both-hold (h .unused-zero) (h .mode-known)) (h .flag-known))
-    (both-hold (lt-ltb (j .allowed) (2 ^ n) (h .allowed-below)) (cases (h .allowed-some)))) (le-leb _ _ (h .cursor-within))) (h .data-fits)
+    (both-hold (lt-ltb (r .allowed) (2 ^ n) (h .allowed-below)) (cases (h .allowed-some)))) (le-leb _ _ (h .cursor-within))) (h .data-fits)
   where
-    cases : (j .mode ≡ 0) ⊎ (0 < j .allowed) → (eqb (j .mode) 0 || not (isNone (j .allowed))) ≡ true
+    cases : (r .mode ≡ 0) ⊎ (0 < r .allowed) → (eqb (r .mode) 0 || not (isNone (r .allowed))) ≡ true
     cases (inl x) = rw x
-    cases (inr x) = either (eqb (j .mode) 0)
-      where
-        either : (b : Bool) → (b || not (isNone (j .allowed))) ≡ true
-        either true = refl
-        either false = pos-some (j .allowed) x
+    cases (inr x) = rw (pos-some (r .allowed) x) (or-true (eqb (r .mode) 0))
 
 -- flag 0 and no masks
-none-there : (j : Job) → noMasks j ≡ true → (j .flag ≡ 0) × (j .user ≡ 0) × (j .effective ≡ 0)
+none-there : (r : Record) → noMasks r ≡ true → (r .flag ≡ 0) × (r .user ≡ 0) × (r .effective ≡ 0)
 unfolding noMasks
-none-there j e =
-    let p = both-true {a = eqb (j .flag) 0 && isNone (j .user)} {b = isNone (j .effective)} e in
-    let q = both-true {a = eqb (j .flag) 0} {b = isNone (j .user)} (p .0) in
+none-there r e =
+    let p = both-true {a = eqb (r .flag) 0 && isNone (r .user)} {b = isNone (r .effective)} e in
+    let q = both-true {a = eqb (r .flag) 0} {b = isNone (r .user)} (p .0) in
     (eqb-true _ _ (q .0), eqb-true _ _ (q .1), eqb-true _ _ (p .1))
 
 -- the masks of a record that carries none
-none-fit : (j : Job) → j .flag ≡ 0 → j .user ≡ 0 → j .effective ≡ 0 → noMasks j ≡ true
+none-fit : (r : Record) → r .flag ≡ 0 → r .user ≡ 0 → r .effective ≡ 0 → noMasks r ≡ true
 unfolding noMasks
-none-fit j f u e = rw (f, u, e)
+none-fit r f u e = rw (f, u, e)
 
 -- mode 0: flag 0, no masks, no list
-pub carries-nothing : (n : ℕ) (j : Job) → dataFits n j nothing ≡ true → (j .flag ≡ 0) × (j .user ≡ 0) × (j .effective ≡ 0) × (j .len ≡ 0)
+pub carries-nothing : (n : ℕ) (r : Record) → dataFits n r nothing ≡ true → (r .flag ≡ 0) × (r .user ≡ 0) × (r .effective ≡ 0) × (r .len ≡ 0)
 unfolding dataFits
-carries-nothing n j e =
-    let p = both-true {a = noMasks j} {b = eqb (j .len) 0} e in
-    let z = none-there j (p .0) in
+carries-nothing n r e =
+    let p = both-true {a = noMasks r} {b = eqb (r .len) 0} e in
+    let z = none-there r (p .0) in
     (z .0, z .1, z .2, eqb-true _ _ (p .1))
 
 -- modes 1 to 3: no list
-pub carries-mask : (n : ℕ) (j : Job) → dataFits n j aMask ≡ true → j .len ≡ 0
+pub carries-mask : (n : ℕ) (r : Record) → dataFits n r aMask ≡ true → r .len ≡ 0
 unfolding dataFits
-carries-mask n j e = eqb-true _ _ (both-true {a = masksFit n j} {b = eqb (j .len) 0} e .1)
+carries-mask n r e = eqb-true _ _ (both-true {a = masksFit n r} {b = eqb (r .len) 0} e .1)
 
 -- modes 4 to 6: flag 0, no masks, 1 to 16 places
-pub carries-list : (n : ℕ) (j : Job) → dataFits n j aList ≡ true
-    → (j .flag ≡ 0) × (j .user ≡ 0) × (j .effective ≡ 0) × (1 ≤ j .len) × (j .len ≤ placesPerJob)
+pub carries-list : (n : ℕ) (r : Record) → dataFits n r aList ≡ true
+    → (r .flag ≡ 0) × (r .user ≡ 0) × (r .effective ≡ 0) × (1 ≤ r .len) × (r .len ≤ placesPerJob)
 unfolding dataFits
-carries-list n j e =
-    let p = both-true {a = noMasks j} {b = between 1 placesPerJob (j .len)} e in
-    let z = none-there j (p .0) in
-    let l = both-true {a = leb 1 (j .len)} {b = leb (j .len) placesPerJob} (p .1) in
+carries-list n r e =
+    let p = both-true {a = noMasks r} {b = between 1 placesPerJob (r .len)} e in
+    let z = none-there r (p .0) in
+    let l = both-true {a = leb 1 (r .len)} {b = leb (r .len) placesPerJob} (p .1) in
     (z .0, z .1, z .2, leb-true _ _ (l .0), leb-true _ _ (l .1))
 
 -- the unused bits of a well-formed record are zero
-pub rest-zero : (n : ℕ) (j : Job) → Formed n j → j .rest ≡ 0
+pub rest-zero : (n : ℕ) (r : Record) → Formed n r → r .turn .rest ≡ 0
 unfolding unusedZero
-rest-zero n j h = eqb-true _ _ (both-true {a = eqb (j .rest) 0} {b = all (eqb 0) (drop (j .len) (j .bytes))} (h .unused-zero) .0)
+rest-zero n r h = eqb-true _ _ (both-true {a = eqb (r .turn .rest) 0} {b = all (eqb 0) (drop (r .len) (r .bytes))} (h .unused-zero) .0)
 
 -- ---- the effective mask
 
@@ -154,48 +150,54 @@ both-within a b h =
 
 -- mode 0 carries no mask
 pub mask-mode : (mode : ℕ) → carries (modeOf mode) ≡ aMask → mode ≡ 0 → ⊥
-unfolding carries
+unfolding rowOf
 mask-mode zero e z = let x : _≡_ {A = ℕ} 0 1 = cc in omega arith
 mask-mode (suc n) e z = omega arith
 
--- "effective .. within allowed": in every well-formed record
-pub effective-within : (n : ℕ) (j : Job) → n ≤ maskBits → Formed n j → bitAnd (j .effective) (j .allowed) ≡ j .effective
-unfolding dataFits masksFit effectiveFits
-effective-within n j l h = go (carries (modeOf (j .mode))) refl (h .data-fits)
+-- a well-formed record that carries a mask allows some node
+pub some-allowed : (n : ℕ) (r : Record) → Formed n r → carries (modeOf (r .mode)) ≡ aMask → 0 < r .allowed
+some-allowed n r h c = go (h .allowed-some)
   where
-    low : j .allowed < 2 ^ maskBits
-    low = word-mask (j .allowed) l (h .allowed-below)
+    go : (r .mode ≡ 0) ⊎ (0 < r .allowed) → 0 < r .allowed
+    go (inl z) = absurd (mask-mode (r .mode) c z)
+    go (inr p) = p
 
-    empty : noMasks j ≡ true → bitAnd (j .effective) (j .allowed) ≡ j .effective
-    empty e = let z = none-there j e .2 in rw z (and-zero-l (j .allowed))
+-- "effective .. within allowed": in every well-formed record
+pub effective-within : (n : ℕ) (r : Record) → n ≤ maskBits → Formed n r → bitAnd (r .effective) (r .allowed) ≡ r .effective
+unfolding dataFits masksFit effectiveFits
+effective-within n r l h = go (carries (modeOf (r .mode))) refl (h .data-fits)
+  where
+    low : r .allowed < 2 ^ maskBits
+    low = word-mask (r .allowed) l (h .allowed-below)
 
-    some-allowed : carries (modeOf (j .mode)) ≡ aMask → (j .mode ≡ 0) ⊎ (0 < j .allowed) → 0 < j .allowed
-    some-allowed e (inl z) = absurd (mask-mode (j .mode) e z)
-    some-allowed e (inr p) = p
+    empty : noMasks r ≡ true → bitAnd (r .effective) (r .allowed) ≡ r .effective
+    empty e = let z = none-there r e .2 in rw z (and-zero-l (r .allowed))
 
-    by-flag : (f : Flag) → 0 < j .allowed → effectiveFits n j f ≡ true → bitAnd (j .effective) (j .allowed) ≡ j .effective
-    by-flag plain p e = eqb-true _ _ (both-true {a = below n (j .user) && not (isNone (j .effective))} {b = within (j .effective) (j .allowed)} e .1)
+    by-flag : (f : Flag) → 0 < r .allowed → effectiveFits n r f ≡ true → bitAnd (r .effective) (r .allowed) ≡ r .effective
+    by-flag plain p e = eqb-true _ _ (both-true {a = below n (r .user) && not (isNone (r .effective))} {b = within (r .effective) (r .allowed)} e .1)
     by-flag static p e =
-        let q : j .effective ≡ both (j .user) (j .allowed) = eqb-true _ _ (both-true {a = below n (j .user)} {b = eqb (j .effective) (both (j .user) (j .allowed))} e .1) in
-        rw q (both-within (j .user) (j .allowed) low)
+        let t = both-true {a = below n (r .user)} {b = eqb (r .effective) (both (r .user) (r .allowed))} e .1 in
+        let q : r .effective ≡ both (r .user) (r .allowed) = eqb-true _ _ t in
+        rw q (both-within (r .user) (r .allowed) low)
     by-flag relative p e =
-        let q : j .effective ≡ folded maskBits (j .user) (j .allowed) = eqb-true _ _ e in
-        rw q (folded-within maskBits (j .user) (j .allowed) p low)
+        let q : r .effective ≡ folded maskBits (r .user) (r .allowed) = eqb-true _ _ e in
+        rw q (folded-within maskBits (r .user) (r .allowed) p low)
     by-flag unknownFlag p e = absurd (false≢true e)
 
-    by-user : (b : Bool) → carries (modeOf (j .mode)) ≡ aMask → cond b (eqb (j .mode) 1 && noMasks j) (effectiveFits n j (flagOf (j .flag))) ≡ true
-        → bitAnd (j .effective) (j .allowed) ≡ j .effective
-    by-user true c e = empty (both-true {a = eqb (j .mode) 1} {b = noMasks j} e .1)
-    by-user false c e = by-flag (flagOf (j .flag)) (some-allowed c (h .allowed-some)) e
+    by-user : (b : Bool) → carries (modeOf (r .mode)) ≡ aMask → cond b (eqb (r .mode) 1 && noMasks r) (effectiveFits n r (flagOf (r .flag))) ≡ true
+        → bitAnd (r .effective) (r .allowed) ≡ r .effective
+    by-user true c e = empty (both-true {a = eqb (r .mode) 1} {b = noMasks r} e .1)
+    by-user false c e = by-flag (flagOf (r .flag)) (some-allowed n r h c) e
 
-    go : (k : Carries) → carries (modeOf (j .mode)) ≡ k → dataFits n j k ≡ true → bitAnd (j .effective) (j .allowed) ≡ j .effective
-    go nothing c e = empty (both-true {a = noMasks j} {b = eqb (j .len) 0} e .0)
-    go aMask c e = by-user (isNone (j .user)) c (both-true {a = masksFit n j} {b = eqb (j .len) 0} e .0)
-    go aList c e = empty (both-true {a = noMasks j} {b = between 1 placesPerJob (j .len)} e .0)
+    go : (k : Carries) → carries (modeOf (r .mode)) ≡ k → dataFits n r k ≡ true → bitAnd (r .effective) (r .allowed) ≡ r .effective
+    go nothing c e = empty (both-true {a = noMasks r} {b = eqb (r .len) 0} e .0)
+    go aMask c e = by-user (isNone (r .user)) c (both-true {a = masksFit n r} {b = eqb (r .len) 0} e .0)
+    go aList c e = empty (both-true {a = noMasks r} {b = between 1 placesPerJob (r .len)} e .0)
     go unknown c e = absurd (false≢true e)
 
 -- ---- rebind
 
+-- the empty mask has the empty image
 image-none : (f : ℕ → ℕ) (w : ℕ) → image 0 f w ≡ 0
 unfolding image
 image-none f zero = refl
@@ -206,46 +208,53 @@ pub remapped-none : (w old new : ℕ) → remapped w 0 old new ≡ 0
 unfolding remapped
 remapped-none w old new = image-none (remappedTo w old new) w
 
-module _ (n : ℕ) (j : Job) (new : ℕ) (l : n ≤ maskBits) (h : Formed n j) (fits : new < 2 ^ n) (p : 0 < new) where
-  rebound-none : noMasks j ≡ true → noMasks (rebound j new) ≡ true
+module _ (n : ℕ) (r : Record) (new : ℕ) (l : n ≤ maskBits) (h : Formed n r) (fits : new < 2 ^ n) (p : 0 < new) where
+  -- a rebind leaves a record without masks without masks
+  rebound-none : noMasks r ≡ true → noMasks (rebound r new) ≡ true
   unfolding rebound effectiveAtRebind
   rebound-none e =
-      let z = none-there j e in
-      none-fit (rebound j new) (z .0) (z .1) (rw (z .0, z .2) (remapped-none maskBits (j .allowed) new))
+      let z = none-there r e in
+      none-fit (rebound r new) (z .0) (z .1) (rw (z .0, z .2) (remapped-none maskBits (r .allowed) new))
 
-  rebound-effective : (f : Flag) → flagOf (j .flag) ≡ f → effectiveFits n j f ≡ true → effectiveFits n (rebound j new) f ≡ true
+  -- the effective mask that a rebind stores fits its flag
+  rebound-effective : (f : Flag) → flagOf (r .flag) ≡ f → effectiveFits n r f ≡ true → effectiveFits n (rebound r new) f ≡ true
   unfolding rebound effectiveAtRebind effectiveFits
   rebound-effective plain c e =
-      let q = both-true {a = below n (j .user) && not (isNone (j .effective))} {b = within (j .effective) (j .allowed)} e in
-      let r = both-true {a = below n (j .user)} {b = not (isNone (j .effective))} (q .0) in
-      let some : 0 < j .effective = some-pos (j .effective) (r .1) in
-      let inside : bitAnd (j .effective) (j .allowed) ≡ j .effective = eqb-true _ _ (q .1) in
+      let q = both-true {a = below n (r .user) && not (isNone (r .effective))} {b = within (r .effective) (r .allowed)} e in
+      let t = both-true {a = below n (r .user)} {b = not (isNone (r .effective))} (q .0) in
+      let some : 0 < r .effective = some-pos (r .effective) (t .1) in
+      let inside : bitAnd (r .effective) (r .allowed) ≡ r .effective = eqb-true _ _ (q .1) in
       let low : new < 2 ^ maskBits = word-mask new l fits in
-      let small : j .effective < 2 ^ maskBits = word-mask (j .effective) l (lt-of-le-of-lt (rw inside at (and-le-r (j .effective) (j .allowed))) (h .allowed-below)) in
+      let under : r .effective ≤ r .allowed = rw inside at (and-le-r (r .effective) (r .allowed)) in
+      let small : r .effective < 2 ^ maskBits = word-mask (r .effective) l (lt-of-le-of-lt under (h .allowed-below)) in
       rw (
         c,
-        r .0,
-        pos-some (remapped maskBits (j .effective) (j .allowed) new) (remapped-pos maskBits (j .effective) new p low (j .allowed) some small),
-        eq-eqb _ _ (remapped-within maskBits (j .effective) new p low (j .allowed)),
+        t .0,
+        pos-some (remapped maskBits (r .effective) (r .allowed) new) (remapped-pos maskBits (r .effective) new p low (r .allowed) some small),
+        eq-eqb _ _ (remapped-within maskBits (r .effective) new p low (r .allowed)),
       )
-  rebound-effective static c e = rw (c, both-true {a = below n (j .user)} {b = eqb (j .effective) (both (j .user) (j .allowed))} e .0, eq-eqb (both (j .user) new) _ refl)
-  rebound-effective relative c e = rw c (eq-eqb (folded maskBits (j .user) new) _ refl)
+  rebound-effective static c e =
+      let t = both-true {a = below n (r .user)} {b = eqb (r .effective) (both (r .user) (r .allowed))} e .0 in
+      rw (c, t, eq-eqb (both (r .user) new) _ refl)
+  rebound-effective relative c e = rw c (eq-eqb (folded maskBits (r .user) new) _ refl)
   rebound-effective unknownFlag c e = absurd (false≢true e)
 
-  rebound-masks : (b : Bool) → cond b (eqb (j .mode) 1 && noMasks j) (effectiveFits n j (flagOf (j .flag))) ≡ true
-      → cond b (eqb (j .mode) 1 && noMasks (rebound j new)) (effectiveFits n (rebound j new) (flagOf (j .flag))) ≡ true
-  rebound-masks true e = let q = both-true {a = eqb (j .mode) 1} {b = noMasks j} e in both-hold (q .0) (rebound-none (q .1))
-  rebound-masks false e = rebound-effective (flagOf (j .flag)) refl e
+  -- the masks that a rebind stores fit, whether or not there is a user mask
+  rebound-masks : (b : Bool) → cond b (eqb (r .mode) 1 && noMasks r) (effectiveFits n r (flagOf (r .flag))) ≡ true
+      → cond b (eqb (r .mode) 1 && noMasks (rebound r new)) (effectiveFits n (rebound r new) (flagOf (r .flag))) ≡ true
+  rebound-masks true e = let q = both-true {a = eqb (r .mode) 1} {b = noMasks r} e in both-hold (q .0) (rebound-none (q .1))
+  rebound-masks false e = rebound-effective (flagOf (r .flag)) refl e
 
-  rebound-data : (k : Carries) → dataFits n j k ≡ true → dataFits n (rebound j new) k ≡ true
+  -- what the mode carries still fits
+  rebound-data : (k : Carries) → dataFits n r k ≡ true → dataFits n (rebound r new) k ≡ true
   unfolding dataFits masksFit rebound
-  rebound-data nothing e = let q = both-true {a = noMasks j} {b = eqb (j .len) 0} e in both-hold (rebound-none (q .0)) (q .1)
-  rebound-data aMask e = let q = both-true {a = masksFit n j} {b = eqb (j .len) 0} e in both-hold (rebound-masks (isNone (j .user)) (q .0)) (q .1)
-  rebound-data aList e = let q = both-true {a = noMasks j} {b = between 1 placesPerJob (j .len)} e in both-hold (rebound-none (q .0)) (q .1)
+  rebound-data nothing e = let q = both-true {a = noMasks r} {b = eqb (r .len) 0} e in both-hold (rebound-none (q .0)) (q .1)
+  rebound-data aMask e = let q = both-true {a = masksFit n r} {b = eqb (r .len) 0} e in both-hold (rebound-masks (isNone (r .user)) (q .0)) (q .1)
+  rebound-data aList e = let q = both-true {a = noMasks r} {b = between 1 placesPerJob (r .len)} e in both-hold (rebound-none (q .0)) (q .1)
   rebound-data unknown e = absurd (false≢true e)
 
   -- a rebind to some of the nodes below N leaves the record well formed
-  pub rebound-formed : Formed n (rebound j new)
+  pub rebound-formed : Formed n (rebound r new)
   unfolding rebound unusedZero
   rebound-formed = record {
     unused-zero = h .unused-zero;
@@ -254,14 +263,14 @@ module _ (n : ℕ) (j : Job) (new : ℕ) (l : n ≤ maskBits) (h : Formed n j) (
     allowed-below = fits;
     allowed-some = inr p;
     cursor-within = h .cursor-within;
-    data-fits = rebound-data (carries (modeOf (j .mode))) (h .data-fits);
+    data-fits = rebound-data (carries (modeOf (r .mode))) (h .data-fits);
   }
 
 -- ---- install
 
 -- a known mode is 0 to 6
 pub mode-small : (m : ℕ) → modeKnown (modeOf m) ≡ true → m < 7
-unfolding modeKnown
+unfolding rowOf isKnown
 mode-small zero e = omega arith
 mode-small (suc zero) e = omega arith
 mode-small (suc (suc zero)) e = omega arith
@@ -279,6 +288,7 @@ flag-small (suc zero) e = omega arith
 flag-small (suc (suc zero)) e = omega arith
 flag-small (suc (suc (suc f))) e = absurd (false≢true e)
 
+-- some of the zeros are zero
 zeros-all : (k n : ℕ) → all (eqb 0) (take k (replicate n 0)) ≡ true
 unfolding all
 zeros-all zero n = refl
@@ -297,96 +307,105 @@ unused-places places l =
     ∙ zeros-all n placesPerJob
 
 -- a policy that fits has at most sixteen places
-pub few-places : (k : Carries) (n allowed mode flag user places : ℕ) → policyFits k n allowed mode flag user places ≡ true → places ≤ placesPerJob
+pub few-places : (k : Carries) (n allowed : ℕ) (p : Policy) → policyFits k n allowed p ≡ true → length (p .places) ≤ placesPerJob
 unfolding policyFits
-few-places nothing n a m f u c e = le-trans (le-of-eq (eqb-true c 0 (both-true {a = isNone u} {b = eqb c 0} e .1))) zero-le
-few-places aMask n a m f u c e =
-    le-trans (le-of-eq (eqb-true c 0 (both-true {a = (eqb m 1 || not (isNone u)) && maskFits n a f u} {b = eqb c 0} e .1))) zero-le
-few-places aList n a m f u c e =
-    leb-true c placesPerJob (both-true {a = leb 1 c} {b = leb c placesPerJob} (both-true {a = isNone u} {b = between 1 placesPerJob c} e .1) .1)
-few-places unknown n a m f u c e = absurd (false≢true e)
+few-places nothing n a p e =
+    let c = length (p .places) in
+    le-trans (le-of-eq (eqb-true c 0 (both-true {a = isNone (p .user)} {b = eqb c 0} e .1))) zero-le
+few-places aMask n a p e =
+    let c = length (p .places) in
+    let m = (eqb (p .mode) 1 || not (isNone (p .user))) && maskFits n a p in
+    le-trans (le-of-eq (eqb-true c 0 (both-true {a = m} {b = eqb c 0} e .1))) zero-le
+few-places aList n a p e =
+    let c = length (p .places) in
+    let t = both-true {a = isNone (p .user)} {b = between 1 placesPerJob c} e .1 in
+    leb-true c placesPerJob (both-true {a = leb 1 c} {b = leb c placesPerJob} t .1)
+few-places unknown n a p e = absurd (false≢true e)
 
 -- a mask that fits, without the relative flag, lies below N and meets the allowed set
-mask-fits : (n allowed flag user : ℕ) → (flagOf flag ≡ relative → ⊥) → 0 < user → maskFits n allowed flag user ≡ true
-    → (below n user ≡ true) × (not (isNone (both user allowed)) ≡ true)
+mask-fits : (n allowed : ℕ) (p : Policy) → (flagOf (p .flag) ≡ relative → ⊥) → 0 < p .user → maskFits n allowed p ≡ true
+    → (below n (p .user) ≡ true) × (not (isNone (both (p .user) allowed)) ≡ true)
 unfolding maskFits
-mask-fits n allowed flag user ne p e =
-    both-true (rw (ne-eqb flag 2 (λ z. ne (rw z)), ne-eqb user 0 (λ z. omega arith)) at e)
+mask-fits n allowed p ne q e =
+    both-true (rw (ne-eqb (p .flag) 2 (λ z. ne (rw z)), ne-eqb (p .user) 0 (λ z. omega arith)) at e)
 
 -- the policy's mask is not empty, or the mode is 1 and the flag 0
-mask-or-local : (mode flag user : ℕ) → user ≡ 0 → (eqb mode 1 || not (isNone user)) ≡ true → (eqb flag 0 || not (eqb mode 1 && isNone user)) ≡ true
-    → (eqb mode 1 ≡ true) × (flag ≡ 0)
-mask-or-local mode flag user z e f = go (eqb mode 1) (rw z at e) (rw z at f)
+mask-or-local : (p : Policy) → p .user ≡ 0 → (eqb (p .mode) 1 || not (isNone (p .user))) ≡ true → flagFits aMask p ≡ true
+    → (eqb (p .mode) 1 ≡ true) × (p .flag ≡ 0)
+unfolding flagFits
+mask-or-local p z e f = go (eqb (p .mode) 1) (rw z at e) (rw z at f)
   where
-    go : (b : Bool) → (b || false) ≡ true → (eqb flag 0 || not (b && true)) ≡ true → (b ≡ true) × (flag ≡ 0)
-    go true e f = (refl, eqb-true flag 0 (or-false (eqb flag 0) f))
-      where
-        or-false : (a : Bool) → (a || false) ≡ true → a ≡ true
-        or-false true e = refl
-        or-false false e = e
+    go : (b : Bool) → (b || false) ≡ true → (eqb (p .flag) 0 || not (b && true)) ≡ true → (b ≡ true) × (p .flag ≡ 0)
+    go true e f = (refl, eqb-true (p .flag) 0 (sym (or-false (eqb (p .flag) 0)) ∙ f))
     go false e f = absurd (false≢true e)
 
-module _ (n : ℕ) (j : Job) (mode flag user : ℕ) (places : List ℕ) (l : n ≤ maskBits) (h : Formed n j) (p : 0 < j .allowed) where
-  new : Job
-  new = installed j mode flag user places
+module _ (n : ℕ) (r : Record) (p : Policy) (l : n ≤ maskBits) (h : Formed n r) (some : 0 < r .allowed) where
+  -- the record that an install stores
+  new : Record
+  new = installed r p
 
-  installed-none : flag ≡ 0 → user ≡ 0 → noMasks new ≡ true
+  -- with flag 0 and no user mask it has no masks
+  installed-none : p .flag ≡ 0 → p .user ≡ 0 → noMasks new ≡ true
   unfolding new installed effectiveAtInstall
-  installed-none f u = none-fit new f u (rw (f, u) (and-zero-l (j .allowed)))
+  installed-none f u = none-fit new f u (rw (f, u) (and-zero-l (r .allowed)))
 
-  installed-effective : (f : Flag) → flagOf flag ≡ f → 0 < user → flagKnown f ≡ true → maskFits n (j .allowed) flag user ≡ true
+  -- its effective mask fits its flag
+  installed-effective : (f : Flag) → flagOf (p .flag) ≡ f → 0 < p .user → flagKnown f ≡ true → maskFits n (r .allowed) p ≡ true
       → effectiveFits n new f ≡ true
   unfolding new installed effectiveAtInstall effectiveFits flagKnown
   installed-effective plain c q k e =
-      let r = mask-fits n (j .allowed) flag user (λ x. let z : _≡_ {A = ℕ} 0 1 = cc in omega arith) q e in
-      rw (c, r .0, r .1, eq-eqb _ _ (both-within user (j .allowed) (word-mask (j .allowed) l (h .allowed-below))))
+      let t = mask-fits n (r .allowed) p (λ x. let z : _≡_ {A = ℕ} 0 1 = cc in omega arith) q e in
+      rw (c, t .0, t .1, eq-eqb _ _ (both-within (p .user) (r .allowed) (word-mask (r .allowed) l (h .allowed-below))))
   installed-effective static c q k e =
-      let r = mask-fits n (j .allowed) flag user (λ x. let z : _≡_ {A = ℕ} 0 1 = cc in omega arith) q e in
-      rw (c, r .0, eq-eqb (both user (j .allowed)) _ refl)
-  installed-effective relative c q k e = rw c (eq-eqb (folded maskBits user (j .allowed)) _ refl)
+      let t = mask-fits n (r .allowed) p (λ x. let z : _≡_ {A = ℕ} 0 1 = cc in omega arith) q e in
+      rw (c, t .0, eq-eqb (both (p .user) (r .allowed)) _ refl)
+  installed-effective relative c q k e = rw c (eq-eqb (folded maskBits (p .user) (r .allowed)) _ refl)
   installed-effective unknownFlag c q k e = absurd (false≢true k)
 
-  installed-masks : flagKnown (flagOf flag) ≡ true → flagFits aMask mode flag user ≡ true → (eqb mode 1 || not (isNone user)) ≡ true
-      → maskFits n (j .allowed) flag user ≡ true → masksFit n new ≡ true
-  unfolding new installed masksFit flagFits
-  installed-masks k f m e = go (isNone user) refl
+  -- its masks fit
+  installed-masks : flagKnown (flagOf (p .flag)) ≡ true → flagFits aMask p ≡ true → (eqb (p .mode) 1 || not (isNone (p .user))) ≡ true
+      → maskFits n (r .allowed) p ≡ true → masksFit n new ≡ true
+  unfolding new installed masksFit
+  installed-masks k f m e = go (isNone (p .user)) refl
     where
-      go : (b : Bool) → isNone user ≡ b → cond b (eqb mode 1 && noMasks new) (effectiveFits n new (flagOf flag)) ≡ true
+      go : (b : Bool) → isNone (p .user) ≡ b → cond b (eqb (p .mode) 1 && noMasks new) (effectiveFits n new (flagOf (p .flag))) ≡ true
       go true z =
-          let q = mask-or-local mode flag user (eqb-true user 0 z) m f in
-          both-hold (q .0) (installed-none (q .1) (eqb-true user 0 z))
-      go false z = installed-effective (flagOf flag) refl (some-pos user (ap not z)) k e
+          let q = mask-or-local p (eqb-true (p .user) 0 z) m f in
+          both-hold (q .0) (installed-none (q .1) (eqb-true (p .user) 0 z))
+      go false z = installed-effective (flagOf (p .flag)) refl (some-pos (p .user) (ap not z)) k e
 
-  installed-data : (k : Carries) → flagKnown (flagOf flag) ≡ true → flagFits k mode flag user ≡ true
-      → policyFits k n (j .allowed) mode flag user (length places) ≡ true → dataFits n new k ≡ true
+  -- what its mode carries fits
+  installed-data : (k : Carries) → flagKnown (flagOf (p .flag)) ≡ true → flagFits k p ≡ true → policyFits k n (r .allowed) p ≡ true
+      → dataFits n new k ≡ true
   unfolding new installed dataFits flagFits policyFits
   installed-data nothing k f e =
-      let q = both-true {a = isNone user} {b = eqb (length places) 0} e in
-      both-hold (installed-none (eqb-true flag 0 f) (eqb-true user 0 (q .0))) (q .1)
+      let q = both-true {a = isNone (p .user)} {b = eqb (length (p .places)) 0} e in
+      both-hold (installed-none (eqb-true (p .flag) 0 f) (eqb-true (p .user) 0 (q .0))) (q .1)
   installed-data aMask k f e =
-      let q = both-true {a = (eqb mode 1 || not (isNone user)) && maskFits n (j .allowed) flag user} {b = eqb (length places) 0} e in
-      let r = both-true {a = eqb mode 1 || not (isNone user)} {b = maskFits n (j .allowed) flag user} (q .0) in
-      both-hold (installed-masks k f (r .0) (r .1)) (q .1)
+      let m = eqb (p .mode) 1 || not (isNone (p .user)) in
+      let q = both-true {a = m && maskFits n (r .allowed) p} {b = eqb (length (p .places)) 0} e in
+      let t = both-true {a = m} {b = maskFits n (r .allowed) p} (q .0) in
+      both-hold (installed-masks k f (t .0) (t .1)) (q .1)
   installed-data aList k f e =
-      let q = both-true {a = isNone user} {b = between 1 placesPerJob (length places)} e in
-      both-hold (installed-none (eqb-true flag 0 f) (eqb-true user 0 (q .0))) (q .1)
+      let q = both-true {a = isNone (p .user)} {b = between 1 placesPerJob (length (p .places))} e in
+      both-hold (installed-none (eqb-true (p .flag) 0 f) (eqb-true (p .user) 0 (q .0))) (q .1)
   installed-data unknown k f e = absurd (false≢true e)
 
   -- an install whose tests passed leaves the record well formed
-  pub installed-formed : policyKnown mode flag user ≡ true → policyFits (carries (modeOf mode)) n (j .allowed) mode flag user (length places) ≡ true
-      → Formed n (installed j mode flag user places)
+  pub installed-formed : policyKnown p ≡ true → policyFits (carries (modeOf (p .mode))) n (r .allowed) p ≡ true → Formed n (installed r p)
   unfolding new installed policyKnown unusedZero
   installed-formed k e =
-      let q = both-true {a = modeKnown (modeOf mode) && flagKnown (flagOf flag)} {b = flagFits (carries (modeOf mode)) mode flag user} k in
-      let r = both-true {a = modeKnown (modeOf mode)} {b = flagKnown (flagOf flag)} (q .0) in
+      let held = carries (modeOf (p .mode)) in
+      let q = both-true {a = modeKnown (modeOf (p .mode)) && flagKnown (flagOf (p .flag))} {b = flagFits held p} k in
+      let t = both-true {a = modeKnown (modeOf (p .mode))} {b = flagKnown (flagOf (p .flag))} (q .0) in
       record {
-        unused-zero = unused-places places (few-places (carries (modeOf mode)) n (j .allowed) mode flag user (length places) e);
-        mode-known = r .0;
-        flag-known = r .1;
+        unused-zero = unused-places (p .places) (few-places held n (r .allowed) p e);
+        mode-known = t .0;
+        flag-known = t .1;
         allowed-below = h .allowed-below;
-        allowed-some = inr p;
+        allowed-some = inr some;
         cursor-within = zero-le;
-        data-fits = installed-data (carries (modeOf mode)) (r .1) (q .1) e;
+        data-fits = installed-data held (t .1) (q .1) e;
       }
 
 -- ---- clear
@@ -407,38 +426,33 @@ fresh-formed n = record {
 -- ---- decode and encode
 
 -- a well-formed record has at most sixteen places
-pub short-list : (n : ℕ) (j : Job) (k : Carries) → dataFits n j k ≡ true → j .len ≤ placesPerJob
+pub short-list : (n : ℕ) (r : Record) (k : Carries) → dataFits n r k ≡ true → r .len ≤ placesPerJob
 unfolding dataFits
-short-list n j nothing e = le-trans (le-of-eq (carries-nothing n j e .3)) zero-le
-short-list n j aMask e = le-trans (le-of-eq (carries-mask n j e)) zero-le
-short-list n j aList e = carries-list n j e .4
-short-list n j unknown e = absurd (false≢true e)
+short-list n r nothing e = le-trans (le-of-eq (carries-nothing n r e .3)) zero-le
+short-list n r aMask e = le-trans (le-of-eq (carries-mask n r e)) zero-le
+short-list n r aList e = carries-list n r e .4
+short-list n r unknown e = absurd (false≢true e)
 
 -- a cursor within its limit is a byte
-pub limit-small : (n len : ℕ) (k : Mode) → n ≤ maskBits → len < 256 → cursorLimit n len k < 256
+pub limit-small : (n len : ℕ) (c : Cursor) → n ≤ maskBits → len < 256 → cursorLimit n len c < 256
 unfolding cursorLimit
-limit-small n len default h l = omega arith
-limit-small n len preferred h l = omega arith
-limit-small n len bind h l = omega arith
-limit-small n len interleave h l = omega arith
-limit-small n len list h l = omega arith
-limit-small n len ring h l = l
-limit-small n len early h l = l
-limit-small n len unknownMode h l = omega arith
+limit-small n len noCursor h l = omega arith
+limit-small n len aNode h l = omega arith
+limit-small n len aPlace h l = l
 
 -- a well-formed record with sixteen bytes for its places can be stored
-pub formed-storable : (n : ℕ) (j : Job) → n ≤ maskBits → Formed n j → length (j .bytes) ≡ placesPerJob → AreBytes (j .bytes) → Storable j
-formed-storable n j l h sixteen bytes =
-    let short : j .len ≤ placesPerJob = short-list n j (carries (modeOf (j .mode))) (h .data-fits) in
+pub formed-storable : (n : ℕ) (r : Record) → n ≤ maskBits → Formed n r → length (r .bytes) ≡ placesPerJob → AreBytes (r .bytes) → Storable r
+formed-storable n r l h sixteen bytes =
+    let short : r .len ≤ placesPerJob = short-list n r (carries (modeOf (r .mode))) (h .data-fits) in
     record {
-      mode-fits = omega (arith, mode-small (j .mode) (h .mode-known));
-      flag-fits = omega (arith, flag-small (j .flag) (h .flag-known));
+      mode-fits = omega (arith, mode-small (r .mode) (h .mode-known));
+      flag-fits = omega (arith, flag-small (r .flag) (h .flag-known));
       len-fits = omega arith;
-      cursor-fits = lt-of-le-of-lt (h .cursor-within) (limit-small n (j .len) (modeOf (j .mode)) l (omega arith));
+      cursor-fits = lt-of-le-of-lt (h .cursor-within) (limit-small n (r .len) (rowOf (modeOf (r .mode)) .cursor) l (omega arith));
       sixteen = sixteen;
       are-bytes = bytes;
     }
 
 -- decode and encode of records are inverse on well-formed records: this way round here, the other way round for any six words (encode-decode)
-pub inverse : (n : ℕ) (j : Job) → n ≤ maskBits → wellFormed n j ≡ true → length (j .bytes) ≡ placesPerJob → AreBytes (j .bytes) → decode (encode j) ≡ j
-inverse n j l w sixteen bytes = decode-encode j (formed-storable n j l (formed n j w) sixteen bytes)
+pub inverse : (n : ℕ) (r : Record) → n ≤ maskBits → wellFormed n r ≡ true → length (r .bytes) ≡ placesPerJob → AreBytes (r .bytes) → decode (encode r) ≡ r
+inverse n r l w sixteen bytes = decode-encode r (formed-storable n r l (formed n r w) sixteen bytes)

@@ -1,37 +1,30 @@
 -- Document 01, "The lists of demand 3": one book for all jobs, fed with the calls alone.
-use Prim.Native.Nat.{ℕ, _+_}
+use Prim.Native.Nat.{ℕ}
 use mathlib.Core.List.{List, [], _∷_}
-use lib.ListN.{set}
 use Rattle.rules.specs.Machine.{Machine, nodeCount}
-use Rattle.rules.specs.Calls.{Answer, granted, released, done, refused, Tables, Outcome, Stored, onRequest, onRelease, onInstall, onRebind, onClear}
+use Rattle.rules.specs.Records.{Policy}
+use Rattle.rules.specs.Decisions.{Decision}
+use Rattle.rules.specs.Calls.{Answer, Tables, Change, Outcome, applied, requestDecision, releaseDecision, installDecision, rebindDecision, clearDecision}
 
 -- "The calls are request, release, install, rebind and clear"
 pub data Call : Type 0 where
   request : (job cpu : ℕ) → Call
   release : (job page : ℕ) → Call
-  install : (job mode flag user : ℕ) (places : List ℕ) → Call
+  install : (job : ℕ) (policy : Policy) → Call
   rebind : (job allowed : ℕ) → Call
   clear : (job : ℕ) → Call
 
--- the job that a call is for
-unfoldable pub jobOf : Call → ℕ
-jobOf (request j k) = j
-jobOf (release j p) = j
-jobOf (install j mode flag user places) = j
-jobOf (rebind j allowed) = j
-jobOf (clear j) = j
-
--- "Nothing else changes the ledger": what a call on the job table alone does to both tables
-unfoldable pub withLedger : Tables → Stored → Outcome
-withLedger t s = record { answer = s .answer; tables = record { ledger = t .ledger; records = s .records } }
-
 -- "The book finds each answer or refusal by this document's rules, on its own ledger and records"
+unfoldable pub decision : Machine → Tables → Call → Decision Change
+decision m t (request j k) = requestDecision m t j k
+decision m t (release j p) = releaseDecision (m .pageCounts) t j p
+decision m t (install j p) = installDecision (nodeCount m) (t .records) j p
+decision m t (rebind j allowed) = rebindDecision (nodeCount m) (t .records) j allowed
+decision m t (clear j) = clearDecision (nodeCount m) (t .records) j
+
+-- one call: its answer, and the tables afterwards
 unfoldable pub step : Machine → Tables → Call → Outcome
-step m t (request j k) = onRequest m t j k
-step m t (release j p) = onRelease (m .pageCounts) t j p
-step m t (install j mode flag user places) = withLedger t (onInstall (nodeCount m) (t .records) j mode flag user places)
-step m t (rebind j allowed) = withLedger t (onRebind (nodeCount m) (t .records) j allowed)
-step m t (clear j) = withLedger t (onClear (nodeCount m) (t .records) j)
+step m t c = applied t (decision m t c)
 
 -- "Each call gets the tables as the last one left them": the answers to a list of calls
 unfoldable pub answers : Machine → Tables → List Call → List Answer
@@ -43,14 +36,7 @@ unfoldable pub final : Machine → Tables → List Call → Tables
 final m t [] = t
 final m t (c ∷ cs) = final m (step m t c .tables) cs
 
--- "A grant to job j writes j + 1 at its page in the ledger, a release 0. Nothing else changes the ledger"
-unfoldable pub ledgerAfter : ℕ → List ℕ → Answer → List ℕ
-ledgerAfter j ledger (granted n p) = set ledger p (j + 1)
-ledgerAfter j ledger (released n p) = set ledger p 0
-ledgerAfter j ledger done = ledger
-ledgerAfter j ledger (refused r) = ledger
-
 -- for a proof that computes: `unfolding openBook` opens every definition of this file
 unfoldable pub openBook : Unit {0}
-unfolding jobOf withLedger step answers final ledgerAfter
+unfolding decision step answers final
 openBook = tt

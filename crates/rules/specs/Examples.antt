@@ -7,7 +7,7 @@ use lib.Dec.{T, eqb}
 use Rattle.rules.specs.Basics.{openBasics, sum, all, any, from, same}
 use Rattle.rules.specs.Machine.{openMachine, Machine}
 use Rattle.rules.specs.Masks.{openMasks, maskBits, maskOf}
-use Rattle.rules.specs.Records.{openRecords, wordsPerJob, jobAt}
+use Rattle.rules.specs.Records.{openRecords, wordsPerJob, recordAt, policy}
 use Rattle.rules.specs.SearchOrder.{openSearchOrder}
 use Rattle.rules.specs.Calls.{openCalls, Answer, granted, done, refused, Tables, orderOf, numbers}
 use Rattle.rules.specs.Book.{openBook, Call, request, install, rebind, answers, final}
@@ -47,13 +47,17 @@ pub data Example : Type 0 where
 abbrev pub page : ℕ → Answer
 page p = granted (getD (0 ∷ 0 ∷ 1 ∷ 1 ∷ 3 ∷ 3 ∷ []) p 9) p
 
+-- an install of a policy by its parts
+abbrev pub installs : ℕ → ℕ → ℕ → ℕ → List ℕ → Call
+installs j mode flag user places = install j (policy mode flag user places)
+
 -- "Job 0, freshly installed, all nodes allowed": rebind, then install
 abbrev pub setUp : ℕ → ℕ → ℕ → List ℕ → List Call
-setUp mode flag user places = rebind 0 15 ∷ install 0 mode flag user places ∷ []
+setUp mode flag user places = rebind 0 15 ∷ installs 0 mode flag user places ∷ []
 
 -- "and interleave": the first allowed set, the flag, the user mask, and the sets that it is rebound to
 abbrev pub rebinds : List ℕ → ℕ → List ℕ → List (List ℕ) → List Call
-rebinds allowed flag user later = rebind 0 (nodes allowed) ∷ install 0 3 flag (nodes user) [] ∷ map (λ s. rebind 0 (nodes s)) later
+rebinds allowed flag user later = rebind 0 (nodes allowed) ∷ installs 0 3 flag (nodes user) [] ∷ map (λ s. rebind 0 (nodes s)) later
 
 abbrev pub table : List Example
 table =
@@ -97,7 +101,7 @@ right (visits cpu wanted) =
     same (map (λ s. s .node) (orderOf machineA (final machineA (start machineA) (setUp 0 0 0 [])) 0 cpu)) wanted
 right (effective calls wanted) =
     sameAnswers (answers tenNodes (start tenNodes) calls) (map (λ c. done) calls)
-    && eqb (jobAt (final tenNodes (start tenNodes) calls .records) 0 .effective) (nodes wanted)
+    && eqb (recordAt (final tenNodes (start tenNodes) calls .records) 0 .effective) (nodes wanted)
 
 -- "Those marked T are proved together"
 pub all-right : T (all right table)

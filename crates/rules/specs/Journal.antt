@@ -1,12 +1,13 @@
 -- Document 01, "The journal program": what it writes for what it reads, on lists of bytes.
 use Prim.Native.Nat.{ℕ, zero, suc, _+_, _*_}
-use mathlib.Core.Bool.{Bool, true, false, _&&_, _||_, cond}
+use mathlib.Core.Bool.{Bool, false, _&&_, _||_}
 use mathlib.Core.List.{List, [], _∷_, _++_, map}
 use lib.ListN.{length, getD, take, drop, replicate}
 use lib.Dec.{leb, ltb, eqb}
 use Rattle.rules.specs.Basics.{from, sum, between, allAt}
 use Rattle.rules.specs.Machine.{Machine, machineOk}
-use Rattle.rules.specs.Records.{bytesOf, fromBytes, wordsPerJob, placesPerJob}
+use Rattle.rules.specs.Records.{bytesOf, fromBytes, wordsPerJob, placesPerJob, mostJobs, policy}
+use Rattle.rules.specs.Decisions.{Decision, refuse, accept, unless, then, decided, Written, written}
 use Rattle.rules.specs.Calls.{Tables, refused, numbers}
 use Rattle.rules.specs.Book.{Call, request, release, install, rebind, clear, step}
 
@@ -60,7 +61,7 @@ journalPages = 16384
 
 -- "64 fresh jobs"
 unfoldable pub startOf : Machine → Tables
-startOf m = record { ledger = replicate (sum (m .pageCounts)) 0; records = replicate (wordsPerJob * 64) 0 }
+startOf m = record { ledger = replicate (sum (m .pageCounts)) 0; records = replicate (wordsPerJob * mostJobs) 0 }
 
 -- "kind (1 request, 2 release, 3 rebind, 4 install, 5 clear)"
 pub data Kind : Type 0 where
@@ -69,13 +70,9 @@ pub data Kind : Type 0 where
 abbrev pub kindOf : ℕ → Kind
 kindOf k = getD (unknownKind ∷ request′ ∷ release′ ∷ rebind′ ∷ install′ ∷ clear′ ∷ []) k unknownKind
 
-unfoldable pub kindKnown : Kind → Bool
-kindKnown request′ = true
-kindKnown release′ = true
-kindKnown rebind′ = true
-kindKnown install′ = true
-kindKnown clear′ = true
-kindKnown unknownKind = false
+-- "Then 32-byte records": the size of a record, by its kind
+unfoldable pub sizeOf : Kind → ℕ
+sizeOf kind = 32
 
 -- "job, CPU, mode, flag, list length, mask in 8-15 (release: page in 8-11), places in 16-31. Request uses job and CPU; release job and
 -- page; rebind job and mask; install all but CPU, its places only up to the list length; clear job": byte i of a record is used
@@ -87,51 +84,67 @@ used install′ len i = eqb i 3 || between 5 15 i || (leb 16 i && ltb i (16 + le
 used clear′ len i = eqb i 3
 used unknownKind len i = false
 
--- "Then 32-byte records"
-abbrev pub recordSize : ℕ
-recordSize = 32
-
--- "A bad mark, kind, unused byte or short record"; "Unused bytes are zero"
-unfoldable pub recordOk : List ℕ → Bool
-recordOk bs =
-    leb recordSize (length bs) && marked bs && kindKnown (kindOf (byteAt bs 2))
-    && allAt (λ i b. ltb i 3 || used (kindOf (byteAt bs 2)) (byteAt bs 7) i || eqb b 0) 0 (take recordSize bs)
+-- "Unused bytes are zero": of a record of this kind, after mark and kind
+unfoldable pub unusedBytesZero : Kind → List ℕ → Bool
+unusedBytesZero kind bs = allAt (λ i b. ltb i 3 || used kind (byteAt bs 7) i || eqb b 0) 0 (take (sizeOf kind) bs)
 
 -- the call in a record; a list length over 16 counts as that many places
-unfoldable pub callIn : Kind → List ℕ → Call
-callIn request′ bs = request (byteAt bs 3) (byteAt bs 4)
-callIn release′ bs = release (byteAt bs 3) (number 8 4 bs)
-callIn rebind′ bs = rebind (byteAt bs 3) (number 8 8 bs)
+unfoldable pub callIn : Kind → List ℕ → Decision Call
+callIn request′ bs = accept (request (byteAt bs 3) (byteAt bs 4))
+callIn release′ bs = accept (release (byteAt bs 3) (number 8 4 bs))
+callIn rebind′ bs = accept (rebind (byteAt bs 3) (number 8 8 bs))
 callIn install′ bs =
-    install (byteAt bs 3) (byteAt bs 5) (byteAt bs 6) (number 8 8 bs) (take (byteAt bs 7) (part 16 placesPerJob bs ++ replicate 255 0))
-callIn clear′ bs = clear (byteAt bs 3)
-callIn unknownKind bs = clear 0
+    let places = take (byteAt bs 7) (part 16 placesPerJob bs ++ replicate 255 0) in
+    accept (install (byteAt bs 3) (policy (byteAt bs 5) (byteAt bs 6) (number 8 8 bs) places))
+callIn clear′ bs = accept (clear (byteAt bs 3))
+callIn unknownKind bs = refuse 13
+
+-- A record that is read: the number of its kind, its size and its call.
+pub record Entry : Type 0 where
+  pub kind : ℕ
+  pub size : ℕ
+  pub call : Call
+
+-- "A bad mark, kind, unused byte or short record .. refusal 13": the record that the bytes start with
+unfoldable pub readRecord : List ℕ → Decision Entry
+readRecord bs =
+    let kind = kindOf (byteAt bs 2) in
+    unless (leb (sizeOf kind) (length bs)) 13
+    (unless (marked bs) 13
+    (unless (unusedBytesZero kind bs) 13
+    (then (callIn kind bs) (λ c. accept (record { kind = byteAt bs 2; size = sizeOf kind; call = c })))))
 
 -- "The end of input after a whole record ends the run without an answer". The first argument bounds the number of records.
 unfoldable pub runFrom : ℕ → Machine → Tables → List ℕ → List ℕ
 runFrom zero m t bs = []
 runFrom (suc more) m t [] = []
 runFrom (suc more) m t (b ∷ bs) =
-    let o = step m t (callIn (kindOf (byteAt (b ∷ bs) 2)) (b ∷ bs)) in
-    let rest = answerBytes (byteAt (b ∷ bs) 2) (numbers (o .answer)) ++ runFrom more m (o .tables) (drop recordSize (b ∷ bs)) in
-    cond (recordOk (b ∷ bs)) rest (faulty 13)
+    decided
+    faulty
+    (λ e. answerBytes (e .kind) (numbers (step m t (e .call) .answer)) ++ runFrom more m (step m t (e .call) .tables) (drop (e .size) (b ∷ bs)))
+    (readRecord (b ∷ bs))
 
--- "In the machine record: the six head bytes' 13, then N and CPU count, then shortness, then the other rules"
+-- "In the machine record: the six head bytes' 13, then N and CPU count, then shortness, then the other rules": its size
+unfoldable pub opening : List ℕ → Decision ℕ
+opening bs =
+    unless (headOk bs) 13
+    (unless (countsOk bs) 1
+    (unless (leb (machineSize bs) (length bs)) 13
+    (unless (machineOk (machineIn bs) && leb (sum (machineIn bs .pageCounts)) journalPages) 1
+    (accept (machineSize bs)))))
+
+-- "Standard input": the machine record, then the records
 unfoldable pub journal : List ℕ → List ℕ
 journal bs =
     let m = machineIn bs in
-    let rest = runFrom (length bs) m (startOf m) (drop (machineSize bs) bs) in
-    cond (headOk bs)
-    (cond (countsOk bs)
-    (cond (leb (machineSize bs) (length bs))
-    (cond (machineOk m && leb (sum (m .pageCounts)) journalPages)
-    rest
-    (faulty 1))
-    (faulty 13))
-    (faulty 1))
-    (faulty 13)
+    decided faulty (λ size. runFrom (length bs) m (startOf m) (drop size bs)) (opening bs)
+
+-- a whole journal's answers, at the start of an output: "11 output shorter than the text"
+unfoldable pub writeJournal : List ℕ → List ℕ → Written
+writeJournal input out = written out (journal input)
 
 -- for a proof that computes: `unfolding openJournal` opens every definition of this file
 unfoldable pub openJournal : Unit {0}
-unfolding part number marked answerBytes faulty headOk countsOk machineSize machineIn startOf kindKnown used recordOk callIn runFrom journal
+unfolding part number marked answerBytes faulty headOk countsOk machineSize machineIn startOf sizeOf used unusedBytesZero callIn readRecord
+    runFrom opening journal writeJournal
 openJournal = tt

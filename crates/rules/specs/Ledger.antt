@@ -1,53 +1,45 @@
 -- Document 00, demand 2: "From a page table of zeros, changed only by these calls, a page belongs to a job exactly when the last step that
 -- granted or released it gave it to that job."
-use Prim.Native.Nat.{ℕ}
-use mathlib.Core.Bool.{Bool, false}
-use mathlib.Core.List.{List, [], _∷_}
+use Prim.Native.Nat.{ℕ, zero, suc}
+use mathlib.Core.List.{List, [], _∷_, _++_}
 use mathlib.Core.Option.{Option, none, some}
 use lib.Dec.{eqb}
 use Rattle.rules.specs.Basics.{keep}
 use Rattle.rules.specs.Machine.{Machine}
-use Rattle.rules.specs.Calls.{Answer, granted, released, done, refused, Tables}
-use Rattle.rules.specs.Book.{Call, jobOf, step}
+use Rattle.rules.specs.Decisions.{Decision, refuse, accept}
+use Rattle.rules.specs.Calls.{Tables, Write, Change}
+use Rattle.rules.specs.Book.{Call, decision, step}
 
--- One step of a list of calls: the job that it was for, and its answer.
-pub record Step : Type 0 where
-  pub job : ℕ
-  pub answer : Answer
+-- "A grant to job j writes j + 1 at its page in the ledger, a release 0. Nothing else changes the ledger": what a call writes
+unfoldable pub writesOf : Decision Change → List Write
+writesOf (refuse r) = []
+writesOf (accept c) = c .writes
 
--- the steps of a list of calls
-unfoldable pub steps : Machine → Tables → List Call → List Step
-steps m t [] = []
-steps m t (c ∷ cs) = record { job = jobOf c; answer = step m t c .answer } ∷ steps m (step m t c .tables) cs
-
--- "granted or released it": the answer is about page p
-unfoldable pub isAbout : ℕ → Answer → Bool
-isAbout p (granted n q) = eqb q p
-isAbout p (released n q) = eqb q p
-isAbout p done = false
-isAbout p (refused r) = false
+-- what a list of calls writes, in order
+unfoldable pub writes : Machine → Tables → List Call → List Write
+writes m t [] = []
+writes m t (c ∷ cs) = writesOf (decision m t c) ++ writes m (step m t c .tables) cs
 
 -- the last of a list, else o
 unfoldable pub lastElse : {A : Type 0} → Option A → List A → Option A
 lastElse o [] = o
 lastElse o (x ∷ xs) = lastElse (some x) xs
 
--- "the last step that granted or released it", if there is one
-unfoldable pub lastStep : Machine → Tables → List Call → ℕ → Option Step
-lastStep m t cs p = lastElse none (keep (λ s. isAbout p (s .answer)) (steps m t cs))
+-- "the last step that granted or released it": the last write at page p, if there is one
+unfoldable pub lastWrite : Machine → Tables → List Call → ℕ → Option Write
+lastWrite m t cs p = lastElse none (keep (λ w. eqb (w .page) p) (writes m t cs))
 
--- "gave it to that job": a grant gives the page to the job of the step, a release to none
-unfoldable pub givenBy : ℕ → Answer → Option ℕ
-givenBy j (granted n p) = some j
-givenBy j (released n p) = none
-givenBy j done = none
-givenBy j (refused r) = none
+-- "0 is free, j + 1 is held by job j": the job that a byte gives a page to
+unfoldable pub holder : ℕ → Option ℕ
+holder zero = none
+holder (suc j) = some j
 
-unfoldable pub givenTo : Option Step → Option ℕ
+-- "gave it to that job"
+unfoldable pub givenTo : Option Write → Option ℕ
 givenTo none = none
-givenTo (some s) = givenBy (s .job) (s .answer)
+givenTo (some w) = holder (w .byte)
 
 -- for a proof that computes: `unfolding openLedger` opens every definition of this file
 unfoldable pub openLedger : Unit {0}
-unfolding steps isAbout lastElse lastStep givenBy givenTo
+unfolding writesOf writes lastElse lastWrite holder givenTo
 openLedger = tt

@@ -3,11 +3,12 @@ pub mod Machine
 pub mod Masks
 pub mod Records
 pub mod SearchOrder
+pub mod Decisions
 pub mod Calls
 pub mod Book
 pub mod Ledger
 pub mod Text
 pub mod Journal
-pub mod Replies
+pub mod Answers
 pub mod Examples
 pub mod MoreExamples

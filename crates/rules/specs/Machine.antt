@@ -5,6 +5,7 @@ use mathlib.Core.List.{List, [], _∷_}
 use lib.ListN.{length, getD, take}
 use lib.Dec.{leb, ltb, eqb}
 use Rattle.rules.specs.Basics.{all, from, sum, between, allAt}
+use Rattle.rules.specs.Masks.{maskBits}
 
 -- "The machine": the page counts of its nodes, the CPUs' nodes, and the distances row by row
 pub record Machine : Type 0 where
@@ -16,9 +17,9 @@ pub record Machine : Type 0 where
 abbrev pub nodeCount : Machine → ℕ
 nodeCount m = length (m .pageCounts)
 
--- "N nodes, 1 to 64"
+-- "N nodes, 1 to 64": a mask has a bit for each
 unfoldable pub nodesOk : ℕ → Bool
-nodesOk n = between 1 64 n
+nodesOk n = between 1 maskBits n
 
 -- "Each has 0 to 65,536 pages, at most 1,048,576 together"
 unfoldable pub pagesOk : List ℕ → Bool
@@ -59,12 +60,12 @@ nodeOfPage [] p = 0
 nodeOfPage (c ∷ cs) p = cond (ltb p c) 0 (suc (nodeOfPage cs (p - c)))
 
 -- "The CPU table": the node of CPU k
-abbrev pub nodeOfCpu : Machine → ℕ → ℕ
-nodeOfCpu m k = getD (m .cpuNodes) k 0
+abbrev pub nodeOfCpu : List ℕ → ℕ → ℕ
+nodeOfCpu cpus k = getD cpus k 0
 
--- "The distance table": row x, column n; "255 for unreachable"
-unfoldable pub distance : Machine → ℕ → ℕ → ℕ
-distance m x n = getD (m .distances) (x * nodeCount m + n) 255
+-- "The distance table": of n nodes, row x, column k; "255 for unreachable"
+unfoldable pub distance : ℕ → List ℕ → ℕ → ℕ → ℕ
+distance n distances x k = getD distances (x * n + k) 255
 
 -- for a proof that computes: `unfolding openMachine` opens every definition of this file
 unfoldable pub openMachine : Unit {0}

@@ -8,15 +8,16 @@ use mathlib.Core.List.{List, [], _∷_, _++_, map}
 use lib.ListN.{take, drop, replicate}
 use lib.Dec.{T, eqb}
 use Rattle.rules.specs.Basics.{openBasics, all, from, same}
-use Rattle.rules.specs.Machine.{openMachine, Machine}
+use Rattle.rules.specs.Machine.{openMachine, Machine, nodeCount}
 use Rattle.rules.specs.Masks.{openMasks}
-use Rattle.rules.specs.Records.{openRecords, wellFormed, decode, fresh}
+use Rattle.rules.specs.Records.{openRecords, wellFormed, decode}
 use Rattle.rules.specs.SearchOrder.{openSearchOrder, near}
-use Rattle.rules.specs.Calls.{openCalls, Answer, granted, released, done, refused, Decision, refuse, accept}
-use Rattle.rules.specs.Book.{openBook, Call, request, release, install, rebind, clear, answers}
+use Rattle.rules.specs.Decisions.{openDecisions, Decision, refuse, accept}
+use Rattle.rules.specs.Calls.{openCalls, Answer, granted, released, done, refused}
+use Rattle.rules.specs.Book.{openBook, Call, request, release, rebind, clear, answers}
 use Rattle.rules.specs.Text.{openText, readText, writeText}
 use Rattle.rules.specs.Journal.{openJournal, journal}
-use Rattle.rules.specs.Examples.{machineA, start, nodes, page, setUp, sameAnswers}
+use Rattle.rules.specs.Examples.{machineA, start, nodes, page, installs, setUp, sameAnswers}
 
 -- the bytes of a text
 abbrev pub text : String → List ℕ
@@ -24,9 +25,9 @@ text end = []
 text (c then s) = code c ∷ text s
 
 -- a decision in numbers
-abbrev pub decided : Decision ℕ → List ℕ
-decided (refuse r) = 0 ∷ r ∷ []
-decided (accept x) = 1 ∷ x ∷ []
+abbrev pub inNumbers : Decision ℕ → List ℕ
+inNumbers (refuse r) = 0 ∷ r ∷ []
+inNumbers (accept x) = 1 ∷ x ∷ []
 
 -- What an example says: these calls on a machine with all pages free and one fresh job are answered so; near(x) on a machine whose nodes
 -- are all allowed is this; this text with this N and allowed set is read so; this mask is written so into that much room; this journal
@@ -46,10 +47,10 @@ agree false false = true
 
 abbrev pub right : Example → Bool
 right (run m calls wanted) = sameAnswers (answers m (start m) calls) wanted
-right (nearTo m x wanted) = same (near m (2 ^ 64 - 1) x) wanted
-right (reads n allowed bytes wanted) = same (decided (readText n allowed bytes)) (decided wanted)
+right (nearTo m x wanted) = same (near (nodeCount m) (m .distances) (2 ^ 64 - 1) x) wanted
+right (reads n allowed bytes wanted) = same (inNumbers (readText n allowed bytes)) (inNumbers wanted)
 right (writes n mask room answer wanted) =
-    same (decided (writeText n mask (replicate room 7) .answer)) (decided answer) && same (writeText n mask (replicate room 7) .output) wanted
+    same (inNumbers (writeText n mask (replicate room 7) .answer)) (inNumbers answer) && same (writeText n mask (replicate room 7) .output) wanted
 right (prints bytes wanted) = same (journal bytes) wanted
 right (formed n words wanted) = agree (wellFormed n (decode words)) wanted
 
@@ -121,8 +122,8 @@ texts =
 -- "16 places accepted, 17 refused 6; node 63 accepted with N 64", and the rules that the examples marked T leave open
 abbrev pub runs : List Example
 runs =
-    run machineA (setUp 5 0 0 (replicate 16 3) ++ (install 0 5 0 0 (replicate 17 3) ∷ [])) (done ∷ done ∷ refused 6 ∷ [])
-    ∷ run machine64 (rebind 0 (2 ^ 64 - 1) ∷ install 0 2 0 (2 ^ 63) [] ∷ ask ∷ []) (done ∷ done ∷ granted 63 63 ∷ [])
+    run machineA (setUp 5 0 0 (replicate 16 3) ++ (installs 0 5 0 0 (replicate 17 3) ∷ [])) (done ∷ done ∷ refused 6 ∷ [])
+    ∷ run machine64 (rebind 0 (2 ^ 64 - 1) ∷ installs 0 2 0 (2 ^ 63) [] ∷ ask ∷ []) (done ∷ done ∷ granted 63 63 ∷ [])
     -- the turn of a place is not lost by a refused request
     ∷ run machineA
     (setUp 5 0 0 (0 ∷ 1 ∷ []) ++ (ask ∷ ask ∷ ask ∷ ask ∷ ask ∷ release 0 0 ∷ release 0 2 ∷ ask ∷ []))
@@ -146,7 +147,7 @@ runs =
     ∷ run machineA (setUp 1 0 (nodes (1 ∷ 3 ∷ [])) [] ++ (request 0 6 ∷ [])) (done ∷ done ∷ page 2 ∷ [])
     ∷ run machineA (setUp 1 0 0 [] ++ (request 0 6 ∷ [])) (done ∷ done ∷ page 4 ∷ [])
     -- a bind set out of reach is refused 8 with room in it
-    ∷ run apart (rebind 0 3 ∷ install 0 2 0 2 [] ∷ ask ∷ []) (done ∷ done ∷ refused 8 ∷ [])
+    ∷ run apart (rebind 0 3 ∷ installs 0 2 0 2 [] ∷ ask ∷ []) (done ∷ done ∷ refused 8 ∷ [])
     -- static with an empty effective set goes by the CPU's node over all allowed nodes
     ∷ run machineA (setUp 2 1 (nodes (0 ∷ [])) [] ++ (rebind 0 14 ∷ request 0 6 ∷ [])) (done ∷ done ∷ done ∷ page 4 ∷ [])
     -- a rebind keeps the cursor
@@ -155,14 +156,14 @@ runs =
     ∷ run machineA (rebind 0 15 ∷ ask ∷ release 0 0 ∷ release 0 0 ∷ ask ∷ []) (done ∷ page 0 ∷ released 0 0 ∷ refused 10 ∷ page 0 ∷ [])
     ∷ run machineA (rebind 0 15 ∷ ask ∷ clear 0 ∷ rebind 0 15 ∷ ask ∷ release 0 0 ∷ []) (done ∷ page 0 ∷ done ∷ done ∷ page 1 ∷ released 0 0 ∷ [])
     -- a place at N or above, or not allowed, is passed over
-    ∷ run machineA (rebind 0 7 ∷ install 0 5 0 0 (255 ∷ 3 ∷ 1 ∷ []) ∷ ask ∷ ask ∷ ask ∷ []) (done ∷ done ∷ page 2 ∷ page 3 ∷ refused 8 ∷ [])
+    ∷ run machineA (rebind 0 7 ∷ installs 0 5 0 0 (255 ∷ 3 ∷ 1 ∷ []) ∷ ask ∷ ask ∷ ask ∷ []) (done ∷ done ∷ page 2 ∷ page 3 ∷ refused 8 ∷ [])
     ∷ []
 
 -- "Refusal numbers": the order of the refusals, call by call
 abbrev pub refusals : List Example
 refusals =
     -- a fresh job: 8 at a request, 7 at an install, 5 before 7, 7 before 6
-    run machineA (ask ∷ install 0 0 0 0 [] ∷ install 0 7 0 0 [] ∷ install 0 0 3 0 [] ∷ install 0 2 0 0 [] ∷ [])
+    run machineA (ask ∷ installs 0 0 0 0 [] ∷ installs 0 7 0 0 [] ∷ installs 0 0 3 0 [] ∷ installs 0 2 0 0 [] ∷ [])
     (refused 8 ∷ refused 7 ∷ refused 5 ∷ refused 5 ∷ refused 7 ∷ [])
     -- 2 and 3; 10; 6 before 7 at a rebind
     ∷ run machineA
@@ -170,12 +171,12 @@ refusals =
     (refused 2 ∷ refused 3 ∷ refused 2 ∷ refused 10 ∷ refused 10 ∷ refused 2 ∷ refused 6 ∷ refused 7 ∷ refused 2 ∷ done ∷ [])
     -- 5: a flag with default, with a list, with preferred and an empty mask
     ∷ run machineA
-    (rebind 0 15 ∷ install 0 0 1 0 [] ∷ install 0 5 2 0 (1 ∷ []) ∷ install 0 1 1 0 [] ∷ install 0 1 0 0 [] ∷ [])
+    (rebind 0 15 ∷ installs 0 0 1 0 [] ∷ installs 0 5 2 0 (1 ∷ []) ∷ installs 0 1 1 0 [] ∷ installs 0 1 0 0 [] ∷ [])
     (done ∷ refused 5 ∷ refused 5 ∷ refused 5 ∷ done ∷ [])
     -- 6: an empty mask, a mask with default or a list, a bit at N, a mask that misses the allowed set, places with a mask, no places
     ∷ run machineA
-    (rebind 0 3 ∷ install 0 2 1 0 [] ∷ install 0 0 0 1 [] ∷ install 0 4 0 1 (1 ∷ []) ∷ install 0 3 0 16 [] ∷ install 0 3 1 12 []
-    ∷ install 0 3 2 (2 ^ 63) [] ∷ install 0 2 0 1 (1 ∷ []) ∷ install 0 6 0 0 [] ∷ [])
+    (rebind 0 3 ∷ installs 0 2 1 0 [] ∷ installs 0 0 0 1 [] ∷ installs 0 4 0 1 (1 ∷ []) ∷ installs 0 3 0 16 [] ∷ installs 0 3 1 12 []
+    ∷ installs 0 3 2 (2 ^ 63) [] ∷ installs 0 2 0 1 (1 ∷ []) ∷ installs 0 6 0 0 [] ∷ [])
     (done ∷ refused 6 ∷ refused 6 ∷ refused 6 ∷ refused 6 ∷ refused 6 ∷ done ∷ refused 6 ∷ refused 6 ∷ [])
     -- 1: no nodes; a page count and a sum too large; a distance table too short; a CPU on no node
     ∷ run (record { pageCounts = []; cpuNodes = 0 ∷ []; distances = [] }) (ask ∷ release 0 0 ∷ clear 0 ∷ []) (refused 1 ∷ refused 1 ∷ refused 1 ∷ [])
@@ -249,10 +250,11 @@ journals =
     ∷ prints (recordA ++ rebindA ++ (0x4E ∷ 0x50 ∷ 1 ∷ 0 ∷ 0 ∷ 1 ∷ replicate 26 0) ++ requestA) (rebindAnswer ++ fault 13)
     ∷ prints (recordA ++ (0x4E ∷ 0x50 ∷ 6 ∷ replicate 29 0)) (fault 13)
     -- an install with 17 places is the call's refusal 6; its list length makes its place bytes used
-    ∷ prints (recordA ++ rebindA ++ (0x4E ∷ 0x50 ∷ 4 ∷ 0 ∷ 0 ∷ 5 ∷ 0 ∷ 17 ∷ (replicate 8 0 ++ replicate 16 3))) (rebindAnswer ++ (0x4E ∷ 0x41 ∷ 4 ∷ 6 ∷ drop 4 (fault 6)))
+    ∷ prints (recordA ++ rebindA ++ (0x4E ∷ 0x50 ∷ 4 ∷ 0 ∷ 0 ∷ 5 ∷ 0 ∷ 17 ∷ (replicate 8 0 ++ replicate 16 3)))
+    (rebindAnswer ++ (0x4E ∷ 0x41 ∷ 4 ∷ 6 ∷ drop 4 (fault 6)))
     ∷ prints (recordA ++ (0x4E ∷ 0x50 ∷ 4 ∷ 0 ∷ 0 ∷ 5 ∷ 0 ∷ 1 ∷ (replicate 8 0 ++ (3 ∷ 3 ∷ replicate 14 0)))) (fault 13)
     ∷ []
 
 pub all-right : T (all right (texts ++ runs ++ refusals ++ records ++ journals))
-unfolding openBasics openMachine openMasks openRecords openSearchOrder openCalls openBook openText openJournal
+unfolding openBasics openMachine openMasks openRecords openSearchOrder openDecisions openCalls openBook openText openJournal
 all-right = tt

@@ -1,99 +1,104 @@
--- Document 01, "Search order": which nodes a request tries, in which order, and what a grant leaves in the cursor field.
-use Prim.Native.Nat.{ℕ, suc}
+-- Document 01, "Search order": which nodes a request tries, in which order, and what turn a grant leaves.
+use Prim.Native.Nat.{ℕ}
 use mathlib.Core.Bool.{Bool, not, _&&_, cond}
 use mathlib.Core.List.{List, [], _∷_, _++_, map}
 use mathlib.Core.Option.{Option, none, some}
 use lib.ListN.{getD}
 use lib.Dec.{ltb, eqb}
 use Rattle.rules.specs.Basics.{keep, first, firstOr, isEmpty, each, from, around}
-use Rattle.rules.specs.Machine.{Machine, nodeCount, pagesOf, distance}
-use Rattle.rules.specs.Masks.{maskBits, has, isNone, lowest}
-use Rattle.rules.specs.Records.{Job, Mode, default, preferred, bind, interleave, list, ring, early, unknownMode, modeOf, placesOf}
+use Rattle.rules.specs.Machine.{pagesOf, distance}
+use Rattle.rules.specs.Masks.{maskBits, has, both, isNone, lowest}
+use Rattle.rules.specs.Records.{Record, Turn, lastIs, Mode, default, preferred, bind, interleave, list, ring, early, unknownMode, modeOf}
+use Rattle.rules.specs.Records.{placesOf}
 
--- `limit` is the set of nodes that the job may get: its allowed mask.
-
--- "the other allowed nodes", lower number first
-unfoldable pub others : Machine → ℕ → ℕ → List ℕ
-others m limit x = keep (λ n. has limit n && not (eqb n x)) (from 0 (nodeCount m))
+-- "the other allowed nodes", lower number first: of n nodes, those of a set but x
+unfoldable pub others : ℕ → ℕ → ℕ → List ℕ
+others n set x = keep (λ k. has set k && not (eqb k x)) (from 0 n)
 
 -- those of some nodes that lie at distance d in row x
-unfoldable pub atDistance : Machine → ℕ → List ℕ → ℕ → List ℕ
-atDistance m x ns d = keep (λ n. eqb (distance m x n) d) ns
+unfoldable pub atDistance : ℕ → List ℕ → ℕ → List ℕ → ℕ → List ℕ
+atDistance n distances x ks d = keep (λ k. eqb (distance n distances x k) d) ks
 
 -- "near(x): x first if allowed, then the other allowed nodes at distance below 255 in row x, nearer first, lower number first when
--- equal": distances are 10 to 254, 245 of them
-unfoldable pub near : Machine → ℕ → ℕ → List ℕ
-near m limit x = keep (has limit) (x ∷ []) ++ each (atDistance m x (others m limit x)) (from 10 245)
+-- equal", over a set of nodes: distances are 10 to 254, 245 of them
+unfoldable pub near : ℕ → List ℕ → ℕ → ℕ → List ℕ
+near n distances set x = keep (has set) (x ∷ []) ++ each (atDistance n distances x (others n set x)) (from 10 245)
 
--- One step of a search: the node that is tried, and what the cursor field becomes if it grants.
+-- One try of a search: the node, and the turn that it leaves if it grants.
 pub record Try : Type 0 where
   pub node : ℕ
-  pub cursor : ℕ
+  pub turn : Turn
 
-abbrev pub try : ℕ → ℕ → Try
-try c n = record { node = n; cursor = c }
+abbrev pub try : Turn → ℕ → Try
+try t n = record { node = n; turn = t }
 
--- a search that leaves the cursor as it was
-unfoldable pub unmoved : Job → List ℕ → List Try
-unmoved j ns = map (try (j .cursor)) ns
-
--- "A place whose byte is N or more, or not allowed, is passed over"
-unfoldable pub tried : Machine → ℕ → List Try → List Try
-tried m limit ts = keep (λ t. ltb (t .node) (nodeCount m) && has limit (t .node)) ts
+-- How a search goes: by near(x) over a set of nodes, every try leaving one turn; or by places, each leaving its own.
+pub data Plan : Type 0 where
+  nearest : (set x : ℕ) (turn : Turn) → Plan
+  placed : List Try → Plan
 
 -- the node that place p names
-unfoldable pub nodeAt : Job → ℕ → ℕ
-nodeAt j p = getD (placesOf j) p 0
+unfoldable pub nodeAt : Record → ℕ → ℕ
+nodeAt r p = getD (placesOf r) p 0
 
 -- "Ring: places from one past the cursor, once round; from place 0 with no cursor" (the field holds one past the last place);
 -- "Ring sets it to the granted place"
-unfoldable pub ringTries : Job → List Try
-ringTries j = map (λ p. try (suc p) (nodeAt j p)) (around (j .len) (j .cursor) (j .len))
+unfoldable pub ringTries : Record → List Try
+ringTries r = map (λ p. try (lastIs p) (nodeAt r p)) (around (r .len) (r .turn .cursor) (r .len))
 
 -- "the target t is the lowest effective node above the last target, else the lowest effective one": the first effective one of all
 -- nodes from one past the last target, once round
-unfoldable pub target : Job → Option ℕ
-target j = first (keep (has (j .effective)) (around maskBits (j .cursor) maskBits))
+unfoldable pub target : ℕ → ℕ → Option ℕ
+target effective cursor = first (keep (has effective) (around maskBits cursor maskBits))
 
 -- "Interleave: .. then near(t)"; "Interleave then sets the cursor to the target, even where another node served"
-unfoldable pub interleaved : Machine → ℕ → Option ℕ → List Try
-interleaved m limit none = []
-interleaved m limit (some t) = map (try (suc t)) (near m limit t)
+unfoldable pub interleaved : ℕ → Option ℕ → Plan
+interleaved limit none = placed []
+interleaved limit (some t) = nearest limit t (lastIs t)
 
--- "Search order", mode by mode; x is the CPU's node
-unfoldable pub orderIn : Mode → Machine → ℕ → Job → ℕ → List Try
-orderIn default m limit j x = unmoved j (near m limit x)
-orderIn preferred m limit j x = unmoved j (near m limit (cond (isNone (j .user)) x (lowest maskBits (j .effective))))
-orderIn bind m limit j x = unmoved j (keep (has (j .effective)) (near m limit x))
-orderIn interleave m limit j x = interleaved m limit (target j)
-orderIn list m limit j x = tried m limit (unmoved j (placesOf j))
-orderIn ring m limit j x = tried m limit (ringTries j)
-orderIn early m limit j x = tried m limit (try (j .cursor) (nodeAt j 0) ∷ ringTries j)
-orderIn unknownMode m limit j x = []
+-- "Search order", mode by mode. `limit` is the set of nodes that the job may get, x the CPU's node.
+unfoldable pub planIn : Mode → ℕ → Record → ℕ → Plan
+planIn default limit r x = nearest limit x (r .turn)
+planIn preferred limit r x = nearest limit (cond (isNone (r .user)) x (lowest maskBits (r .effective))) (r .turn)
+planIn bind limit r x = nearest (both limit (r .effective)) x (r .turn)
+planIn interleave limit r x = interleaved limit (target (r .effective) (r .turn .cursor))
+planIn list limit r x = placed (map (try (r .turn)) (placesOf r))
+planIn ring limit r x = placed (ringTries r)
+planIn early limit r x = placed (try (r .turn) (nodeAt r 0) ∷ ringTries r)
+planIn unknownMode limit r x = placed []
 
 -- "Default, and any mode with static and an empty effective set: near(CPU's node)"
-unfoldable pub modeInForce : Job → Mode
-modeInForce j = cond (eqb (j .flag) 1 && isNone (j .effective)) default (modeOf (j .mode))
+unfoldable pub modeInForce : Record → Mode
+modeInForce r = cond (eqb (r .flag) 1 && isNone (r .effective)) default (modeOf (r .mode))
 
-unfoldable pub order : Machine → ℕ → Job → ℕ → List Try
-order m limit j x = orderIn (modeInForce j) m limit j x
+unfoldable pub plan : ℕ → Record → ℕ → Plan
+plan limit r x = planIn (modeInForce r) limit r x
+
+-- "A place whose byte is N or more, or not allowed, is passed over"
+unfoldable pub tried : ℕ → ℕ → List Try → List Try
+tried n limit ts = keep (λ t. ltb (t .node) n && has limit (t .node)) ts
+
+-- "Search order": the tries of a plan on n nodes
+unfoldable pub order : ℕ → List ℕ → ℕ → Plan → List Try
+order n distances limit (nearest set x turn) = map (try turn) (near n distances set x)
+order n distances limit (placed ts) = tried n limit ts
 
 -- "0 is free": the free pages of node n, lowest first
-unfoldable pub freePages : Machine → List ℕ → ℕ → List ℕ
-freePages m ledger n = keep (λ p. eqb (getD ledger p 1) 0) (pagesOf (m .pageCounts) n)
+unfoldable pub freePages : List ℕ → List ℕ → ℕ → List ℕ
+freePages counts ledger n = keep (λ p. eqb (getD ledger p 1) 0) (pagesOf counts n)
 
-unfoldable pub hasRoom : Machine → List ℕ → ℕ → Bool
-hasRoom m ledger n = not (isEmpty (freePages m ledger n))
+unfoldable pub hasRoom : List ℕ → List ℕ → ℕ → Bool
+hasRoom counts ledger n = not (isEmpty (freePages counts ledger n))
 
 -- "grants its lowest free page": the page of node n that job j gets
-unfoldable pub pickPage : Machine → List ℕ → ℕ → ℕ → ℕ
-pickPage m ledger j n = firstOr (freePages m ledger n) 0
+unfoldable pub pickPage : List ℕ → List ℕ → ℕ → ℕ → ℕ
+pickPage counts ledger j n = firstOr (freePages counts ledger n) 0
 
 -- "The first node in the order with a free page"
-unfoldable pub chosen : Machine → List ℕ → List Try → Option Try
-chosen m ledger ts = first (keep (λ t. hasRoom m ledger (t .node)) ts)
+unfoldable pub chosen : List ℕ → List ℕ → List Try → Option Try
+chosen counts ledger ts = first (keep (λ t. hasRoom counts ledger (t .node)) ts)
 
 -- for a proof that computes: `unfolding openSearchOrder` opens every definition of this file
 unfoldable pub openSearchOrder : Unit {0}
-unfolding others atDistance near unmoved tried nodeAt ringTries target interleaved orderIn modeInForce order freePages hasRoom pickPage chosen
+unfolding others atDistance near nodeAt ringTries target interleaved planIn modeInForce plan tried order freePages hasRoom pickPage chosen
 openSearchOrder = tt

@@ -2,12 +2,12 @@
 use Prim.Native.Nat.{ℕ, suc, _+_, _-_, _*_, _/_, _%_}
 use mathlib.Core.Bool.{Bool, true, false, not, _&&_, _||_, cond}
 use mathlib.Core.List.{List, [], _∷_, _++_, map}
-use lib.ListN.{length, getD, drop}
+use lib.ListN.{length, getD}
 use lib.Dec.{leb, ltb, eqb}
 use Rattle.rules.specs.Basics.{all, any, keep, isEmpty, from, between, same}
 use Rattle.rules.specs.Machine.{nodesOk}
 use Rattle.rules.specs.Masks.{maskBits, has, below, maskOf, rank, size}
-use Rattle.rules.specs.Calls.{Decision, refuse, accept, unless}
+use Rattle.rules.specs.Decisions.{Decision, accept, unless, decided, Written, notWritten, written}
 
 -- the bytes `!`, `+`, `,` and `-`, and the word `all`
 abbrev pub bang : ℕ
@@ -145,29 +145,19 @@ commas (t ∷ u ∷ ts) = t ++ (comma ∷ commas (u ∷ ts))
 unfoldable pub textOf : ℕ → List ℕ
 textOf m = commas (map runText (runs (keep (has m) (from 0 maskBits))))
 
--- What the writer does: its answer, the number of bytes written, and the output afterwards.
-pub record Written : Type 0 where
-  pub answer : Decision ℕ
-  pub output : List ℕ
-
--- "N outside 1 to 64 is refusal 1, .. written bits at N or above 6"; "11 output shorter than the text"
-unfoldable pub writeDecision : ℕ → ℕ → ℕ → Decision ℕ
-writeDecision n m room =
+-- "N outside 1 to 64 is refusal 1, .. written bits at N or above 6": the text to be written
+unfoldable pub writeDecision : ℕ → ℕ → Decision (List ℕ)
+writeDecision n m =
     unless (nodesOk n) 1
     (unless (below n m) 6
-    (unless (leb (length (textOf m)) room) 11
-    (accept (length (textOf m)))))
+    (accept (textOf m)))
 
--- "It changes no output byte past the text"; a refusal changes nothing
-unfoldable pub writing : ℕ → List ℕ → Decision ℕ → Written
-writing m out (refuse r) = record { answer = refuse r; output = out }
-writing m out (accept k) = record { answer = accept k; output = textOf m ++ drop k out }
-
+-- "11 output shorter than the text"; "It changes no output byte past the text"; a refusal changes nothing
 unfoldable pub writeText : ℕ → ℕ → List ℕ → Written
-writeText n m out = writing m out (writeDecision n m (length out))
+writeText n m out = decided (notWritten out) (written out) (writeDecision n m)
 
 -- for a proof that computes: `unfolding openText` opens every definition of this file
 unfoldable pub openText : Unit {0}
 unfolding onto split valueFrom isNumber isItem itemHas itemsOf isItems names formBy formOf formOk formMask readText
-    joined runs decimal runText commas textOf writeDecision writing writeText
+    joined runs decimal runText commas textOf writeDecision writeText
 openText = tt

@@ -1,7 +1,9 @@
 // The shared types of the placer. The rules themselves, document 01 as definitions, are in specs/.
 
 ghost use mathlib.Core.Path.{_≡_};
-ghost use Rattle.rules.specs.Replies.{numberOf};
+ghost use mathlib.Core.List.{[], _∷_};
+ghost use Rattle.rules.specs.Calls.{numbers};
+ghost use Rattle.rules.specs.Answers.{numberOf, answerOf, decisionOf, numbersIn, inNumbers, numberIn};
 
 // A node number, a page number and a place in a list are three kinds of number.
 pub struct Node(pub u8);
@@ -9,6 +11,20 @@ pub struct Node(pub u8);
 pub struct Page(pub u32);
 
 pub struct Place(pub u8);
+
+// "N nodes, 1 to 64", "1 to 64 jobs", "six [words] to a job", "sixteen list places".
+pub const MOST_NODES: usize = 64;
+
+pub const MOST_JOBS: usize = 64;
+
+pub const WORDS_PER_JOB: usize = 6;
+
+pub const PLACES_PER_JOB: usize = 16;
+
+// Node and page of an answer that names none.
+const NO_NODE: u8 = 0xFF;
+
+const NO_PAGE: u32 = 0xFFFF_FFFF;
 
 // Why a call was refused: document 01, "Refusal numbers", from 1 on.
 pub enum Refusal {
@@ -28,11 +44,32 @@ pub enum Refusal {
 }
 
 // What a call answers.
-pub enum Reply {
+pub enum Answer {
     Granted(Node, Page),
     Released(Node, Page),
     Done,
     Refused(Refusal),
+}
+
+// A number, or why there is none.
+pub enum Decision {
+    Accept(u64),
+    Refuse(Refusal),
+}
+
+// An answer in numbers: refusal 0 is none.
+#[repr(C)]
+pub struct Numbers {
+    pub refusal: u8,
+    pub node: u8,
+    pub page: u32,
+}
+
+// A decision in numbers: refusal 0 is none, and the value is 0 on a refusal.
+#[repr(C)]
+pub struct Number {
+    pub refusal: u8,
+    pub value: u64,
 }
 
 impl Refusal {
@@ -54,6 +91,51 @@ impl Refusal {
             Refusal::OutputTooShort => 11,
             Refusal::BadText => 12,
             Refusal::DamagedJournal => 13,
+        }
+    }
+}
+
+impl Numbers {
+    // These three numbers.
+    fn of(refusal: u8, node: u8, page: u32) -> Numbers
+        ensures { λ r. ⌜ numbersIn r ≡ refusal ∷ node ∷ page ∷ [] ⌝ }
+    {
+        Numbers {
+            refusal: refusal,
+            node: node,
+            page: page,
+        }
+    }
+}
+
+impl Answer {
+    // "refusal, node or FF, .. page or FFFFFFFF"
+    pub fn numbers(self) -> Numbers
+        ensures { λ r. ⌜ numbersIn r ≡ numbers (answerOf self) ⌝ }
+    {
+        match self {
+            Answer::Granted(node, page) => Numbers::of(0, node.0, page.0),
+            Answer::Released(node, page) => Numbers::of(0, node.0, page.0),
+            Answer::Done => Numbers::of(0, NO_NODE, NO_PAGE),
+            Answer::Refused(why) => Numbers::of(why.number(), NO_NODE, NO_PAGE),
+        }
+    }
+}
+
+impl Decision {
+    // 0 and the number, or the number of the refusal and 0.
+    pub fn number(self) -> Number
+        ensures { λ r. ⌜ numberIn r ≡ inNumbers (decisionOf self) ⌝ }
+    {
+        match self {
+            Decision::Accept(value) => Number {
+                refusal: 0,
+                value: value,
+            },
+            Decision::Refuse(why) => Number {
+                refusal: why.number(),
+                value: 0,
+            },
         }
     }
 }

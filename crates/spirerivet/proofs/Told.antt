@@ -6,28 +6,31 @@ use mathlib.Core.List.{List}
 use native.Mathlib.Omega.{arith}
 use lib.ListN.{getD}
 use Rattle.rules.specs.declared.Refusal.{Refusal}
-use Rattle.rules.specs.declared.Refusal.the-variants.{BadTables, NoSuchJob, NoSuchCpu, MalformedRecord, UnknownPolicy, DoesNotFit, NothingAllowed, NoRoom, NothingEffective, NotHeld, OutputTooShort, BadText, DamagedJournal}
-use Rattle.rules.specs.Calls.{Answer, Outcome, Stored, Decision, accept, numbers}
-use Rattle.rules.specs.Replies.{numberOf}
-use Rattle.placement.specs.Lent.{Did}
-use Rattle.replay.specs.declared.Replayed.{Replayed}
-use Rattle.replay.specs.declared.Replayed.the-variants.{Ran, Refused}
-use Rattle.replay.specs.Replay.{Run, Replays, decisionOf}
-use Rattle.spirerivet.specs.declared.HostAnswer.{HostAnswer}
-use Rattle.spirerivet.specs.declared.HostNumber.{HostNumber}
-use Rattle.spirerivet.specs.Numbers.{numbersIn, decided, decidedIn, Told, ToldStored, ToldRun}
+use Rattle.rules.specs.declared.Refusal.the-variants.{BadTables, NoSuchJob, NoSuchCpu, MalformedRecord, UnknownPolicy, DoesNotFit}
+use Rattle.rules.specs.declared.Refusal.the-variants.{NothingAllowed, NoRoom, NothingEffective, NotHeld, OutputTooShort, BadText, DamagedJournal}
+use Rattle.rules.specs.declared.Decision.{Decision}
+use Rattle.rules.specs.declared.Decision.the-variants.{Accept, Refuse}
+use Rattle.rules.specs.declared.Number.{Number}
+use Rattle.rules.specs.Decisions.{Decision as LawDecision, accept, Written, wrote}
+use Rattle.rules.specs.Calls.{Answer, Tables, Outcome, outcome, numbers}
+use Rattle.rules.specs.Answers.{numberOf, decisionOf, inNumbers, numberIn, told, toldOf}
+use Rattle.replay.specs.Replay.{Run, run}
+use Rattle.spirerivet.specs.Told.{toldOutput, toldWritten, toldRun, toldReplay}
 
--- a call on both tables that did what the rules say is told so
-pub told : {o : Outcome} {a : Answer} {r : HostAnswer} {ledger records : List ℕ} → Did o a ledger records → numbersIn r ≡ numbers a → Told o r ledger records
-told d e = record { answers = e ∙ ap numbers (d .answers); ledgerIs = d .ledgerIs; recordsAre = d .recordsAre }
+-- a call that did what the rules say is told so
+pub told-call : {o : Outcome} {a : Answer} {t : Tables} {ns : List ℕ} → ns ≡ numbers a → outcome a t ≡ o → told ns t ≡ toldOf o
+unfolding toldOf
+told-call {o} {a} {t} n e = ap (λ (x : List ℕ). told x t) n ∙ ap toldOf e
 
--- likewise a call on the job table alone
-pub told-stored : {s : Stored} {a : Answer} {r : HostAnswer} {records : List ℕ} → (a ≡ s .answer) × (records ≡ s .records) → numbersIn r ≡ numbers a → ToldStored s r records
-told-stored d e = record { answers = e ∙ ap numbers (d .0); recordsAre = d .1 }
+-- likewise a call that writes an output
+pub told-written : {w : Written} {d : LawDecision ℕ} {out : List ℕ} {ns : List ℕ} → ns ≡ inNumbers d → wrote d out ≡ w → toldOutput ns out ≡ toldWritten w
+unfolding toldWritten
+told-written {w} {d} {out} n e = ap (λ (x : List ℕ). toldOutput x out) n ∙ ap toldWritten e
 
--- likewise a list of calls
-pub told-run : {run : Run} {d : Decision ℕ} {r : HostNumber} {ledger records output : List ℕ} → Replays run d ledger records output → decidedIn r ≡ decided d → ToldRun run r ledger records output
-told-run d e = record { answers = e ∙ ap decided (d .answers); ledgerIs = d .ledgerIs; recordsAre = d .recordsAre; outputIs = d .outputIs }
+-- and a list of calls
+pub told-run : {r : Run} {d : LawDecision ℕ} {t : Tables} {out : List ℕ} {ns : List ℕ} → ns ≡ inNumbers d → run d t out ≡ r → toldRun ns t out ≡ toldReplay r
+unfolding toldReplay
+told-run {r} {d} {t} {out} n e = ap (λ (x : List ℕ). toldRun x t out) n ∙ ap toldReplay e
 
 -- no refusal has number 0
 numbered : (why : Refusal) → 1 ≤ numberOf why
@@ -46,8 +49,8 @@ numbered BadText = omega arith
 numbered DamagedJournal = omega arith
 
 -- refusal 0 is no refusal: the calls ran
-pub ran-at-zero : (x : Replayed) {r : HostNumber} → decidedIn r ≡ decided (decisionOf x) → r .refusal ≡ 0 → decisionOf x ≡ accept (r .value)
-ran-at-zero (Ran n) e z = ap accept (sym (ap (λ (l : List ℕ). getD l 1 0) e))
-ran-at-zero (Refused why) e z =
+pub ran-at-zero : (x : Decision) {n : Number} → numberIn n ≡ inNumbers (decisionOf x) → n .refusal ≡ 0 → decisionOf x ≡ accept (n .value)
+ran-at-zero (Accept value) e z = ap accept (sym (ap (λ (l : List ℕ). getD l 1 0) e))
+ran-at-zero (Refuse why) e z =
     let same : 0 ≡ numberOf why = sym z ∙ ap (λ (l : List ℕ). getD l 0 0) e in
     absurd (omega (arith, numbered why))

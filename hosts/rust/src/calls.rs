@@ -83,7 +83,8 @@ pub fn write_nodes(nodes: usize, mask: u64, out: &mut [u8]) -> Result<usize, Ref
     number(ffi::write_nodes(nodes, mask, out)).map(|length| length as usize)
 }
 
-/// Makes all calls of a list (see `words_of`) and writes a word for each answer; gives how many.
+/// Makes all calls of a list (see `words_of`) and writes a word for each answer; gives how many. With no call made: bad
+/// tables are refused 1, an unknown kind of call and a list that is cut short 13, too few answer words 11.
 pub fn replay(
     counts: &[u32],
     cpus: &[u8],
@@ -96,8 +97,8 @@ pub fn replay(
     number(ffi::replay(counts, cpus, distances, pages, jobs, calls, answers)).map(|ran| ran as usize)
 }
 
-/// Runs a whole journal and writes its answers; gives their length. The output must have room for an answer to each whole
-/// record that fits into the input, and one more.
+/// Runs a whole journal and writes its answers, 12 bytes each; gives their length. Refused 11 exactly when the output is
+/// shorter than the answers; 12 bytes for each 32 of the input, and 12 more, are always enough.
 pub fn journal(input: &[u8], output: &mut [u8]) -> Result<usize, Refusal> {
     number(ffi::journal(input, output)).map(|length| length as usize)
 }

@@ -5,7 +5,7 @@ use crate::calls::{refusal_of, NO_NODE, NO_PAGE};
 
 /// The words of a call.
 pub const CALL_WORDS: usize = 16;
-/// The places that a call has room for.
+/// The places that stand in the words of a call; an install may have more.
 pub const MOST_CALL_PLACES: usize = 64;
 
 /// One call of a list.
@@ -18,25 +18,23 @@ pub enum Call<'a> {
     Clear { job: u64 },
 }
 
-/// The sixteen words of a call; none if it has over 64 places.
-pub fn words_of(call: &Call) -> Option<[u64; CALL_WORDS]> {
+/// The sixteen words of a call. An install may have any number of places: word 5 has the number, words 8 to 15 the first
+/// 64 of them. The rest are not needed, since an install of over 16 places is refused.
+pub fn words_of(call: &Call) -> [u64; CALL_WORDS] {
     let mut words = [0; CALL_WORDS];
     match *call {
         Call::Request { job, cpu } => words[..3].copy_from_slice(&[1, job, cpu]),
         Call::Release { job, page } => words[..3].copy_from_slice(&[2, job, page]),
         Call::Rebind { job, allowed } => words[..3].copy_from_slice(&[3, job, allowed]),
         Call::Install { job, mode, flag, mask, places } => {
-            if places.len() > MOST_CALL_PLACES {
-                return None;
-            }
             words[..6].copy_from_slice(&[4, job, mode, flag, mask, places.len() as u64]);
-            for (place, byte) in places.iter().enumerate() {
+            for (place, byte) in places.iter().take(MOST_CALL_PLACES).enumerate() {
                 words[8 + place / 8] |= u64::from(*byte) << (8 * (place % 8));
             }
         }
         Call::Clear { job } => words[..2].copy_from_slice(&[5, job]),
     }
-    Some(words)
+    words
 }
 
 /// The answer in a word, for the call it answers.
@@ -62,7 +60,7 @@ mod tests {
 
     #[test]
     fn the_words_of_each_kind() {
-        let words = |call| words_of(&call).unwrap();
+        let words = |call: Call| words_of(&call);
         assert_eq!(words(Call::Request { job: 7, cpu: 9 })[..4], [1, 7, 9, 0]);
         assert_eq!(words(Call::Release { job: 7, page: 1 << 40 })[..4], [2, 7, 1 << 40, 0]);
         assert_eq!(words(Call::Rebind { job: 7, allowed: u64::MAX })[..4], [3, 7, u64::MAX, 0]);
@@ -71,7 +69,19 @@ mod tests {
         let call = words(Call::Install { job: 1, mode: 5, flag: 2, mask: 3, places: &places });
         assert_eq!(call[..9], [4, 1, 5, 2, 3, 64, 0, 0, 0x0807_0605_0403_0201]);
         assert_eq!(call[15], 0x403F_3E3D_3C3B_3A39);
-        assert_eq!(words_of(&Call::Install { job: 1, mode: 5, flag: 0, mask: 0, places: &[0; 65] }), None);
+    }
+
+    #[test]
+    fn any_number_of_places_has_words() {
+        for length in [0, 1, 63, 64, 65, 255, 256, 65_536, 1_000_000] {
+            let places: Vec<u8> = (0..length).map(|place| (place % 255) as u8 + 1).collect();
+            let words = words_of(&Call::Install { job: 1, mode: 5, flag: 2, mask: 3, places: &places });
+            assert_eq!(words[..8], [4, 1, 5, 2, 3, length as u64, 0, 0]);
+            let mut first = places;
+            first.resize(MOST_CALL_PLACES, 0);
+            let bytes: Vec<u8> = words[8..].iter().flat_map(|word| word.to_le_bytes()).collect();
+            assert_eq!(bytes, first, "{length}");
+        }
     }
 
     #[test]

@@ -13,7 +13,7 @@ use std::ops::Range;
 pub use both::{library_call, Both, Seen};
 pub use journal::journal_by_both;
 pub use lent::{Lent, LentTables};
-pub use list::{answer_word, list_refusal, packed, words, RUBBISH};
+pub use list::{answer_word, install_in, list_refusal, packed, words, RUBBISH};
 pub use text::{read_by_both, write_by_both};
 
 /// Seeds from 0; the environment variable HOSTS_TIMES makes a run so many times longer.

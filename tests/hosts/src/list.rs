@@ -7,8 +7,8 @@ use reference::machine::request_tables_fit;
 /// What stands in answer cells that nothing may write.
 pub const RUBBISH: u64 = 0xA5A5_A5A5_A5A5_A5A5;
 
-/// The words of a call; none if it has too many places.
-pub fn words(call: &Call) -> Option<[u64; spirerivet::CALL_WORDS]> {
+/// The words of a call.
+pub fn words(call: &Call) -> [u64; spirerivet::CALL_WORDS] {
     let wide = |number: &usize| *number as u64;
     spirerivet::words_of(&match call {
         Call::Request { job, cpu } => spirerivet::Call::Request { job: wide(job), cpu: wide(cpu) },
@@ -30,12 +30,11 @@ fn last_used(call: &Call) -> usize {
     }
 }
 
-/// A list of words, and the calls in it; rubbish in all that is ignored, calls with too many places left out.
-pub fn packed(dice: &mut Dice, calls: &[Call]) -> (Vec<u64>, Vec<Call>) {
+/// The words of the calls, one after the other; rubbish in all that is ignored.
+pub fn packed(dice: &mut Dice, calls: &[Call]) -> Vec<u64> {
     let mut list = Vec::new();
-    let mut kept = Vec::new();
     for call in calls {
-        let Some(mut call_words) = words(call) else { continue };
+        let mut call_words = words(call);
         let first_place_free = match call {
             Call::Install { places, .. } => places.len(),
             _ => 0,
@@ -47,9 +46,21 @@ pub fn packed(dice: &mut Dice, calls: &[Call]) -> (Vec<u64>, Vec<Call>) {
             call_words[8 + place / 8] |= u64::from(dice.byte()) << (8 * (place % 8));
         }
         list.extend(call_words);
-        kept.push(call.clone());
     }
-    (list, kept)
+    list
+}
+
+/// The call in the words of an install: any number of places may be said, and those past the 64th are zeros.
+pub fn install_in(call: &[u64]) -> Call {
+    let places = match call[5] {
+        length @ 0..=1_000 => {
+            let bytes = call[8..16].iter().flat_map(|word| word.to_le_bytes());
+            bytes.chain(std::iter::repeat(0)).take(length as usize).collect()
+        }
+        // Too long to be built. Of a list of over 16 places an install reads only that it is one: 17 zeros will do.
+        _ => vec![0; 17],
+    };
+    Call::Install { job: call[1] as usize, mode: call[2], flag: call[3], mask: call[4], places }
 }
 
 /// The word of an answer.
@@ -62,19 +73,14 @@ pub fn answer_word(answer: Answer) -> u64 {
     u64::from(refusal) + u64::from(node) * 256 + u64::from(page) * 4_294_967_296
 }
 
-/// The refusal of a whole list: 1, 13, 11 in this order.
+/// The refusal of a whole list: 1, 13, 11 in this order; 13 is for a list that is cut short and for an unknown kind alone.
 pub fn list_refusal(tables: &Tables, list: &[u64], room: usize) -> Option<u8> {
     let Tables { counts, cpus, distances, pages, jobs } = tables;
     if !request_tables_fit(counts, cpus, distances, pages, jobs) {
         return Some(1);
     }
-    if list.len() % 16 != 0 {
+    if list.len() % 16 != 0 || list.chunks(16).any(|call| call[0] == 0 || call[0] > 5) {
         return Some(13);
-    }
-    for call in list.chunks(16) {
-        if call[0] == 0 || call[0] > 5 || (call[0] == 4 && call[5] > 64) {
-            return Some(13);
-        }
     }
     if room < list.len() / 16 {
         return Some(11);

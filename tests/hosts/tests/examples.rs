@@ -3,7 +3,6 @@
 use hosts::{answer_word, journal_by_both, read_by_both, words, write_by_both, Both, LentTables, Seen};
 use reference::calls::Tables;
 use reference::examples::{all, texts, Example, Step, TextExample, ANSWERS_ON_A, JOURNAL_ON_A};
-use reference::journal::RECORD;
 use reference::program::output_of;
 
 /// The journal program, named by SPIRERIVET_PLACER.
@@ -42,7 +41,7 @@ fn by_calls(example: &Example, seen: &mut Seen) -> Tables {
 
 /// As one list of calls: the library's replay gives the same answers and tables.
 fn by_replay(example: &Example, after: &Tables) {
-    let list: Vec<u64> = example.calls().iter().flat_map(|(call, _)| words(call).expect("a call of a list")).collect();
+    let list: Vec<u64> = example.calls().iter().flat_map(|(call, _)| words(call)).collect();
     let wanted: Vec<u64> = example.calls().iter().map(|(_, answer)| answer_word(*answer)).collect();
     let mut answers = vec![0; wanted.len()];
     let mut lent = LentTables::new(&example.start);
@@ -57,7 +56,7 @@ fn by_replay(example: &Example, after: &Tables) {
 /// As a journal: the program, the library's journal call and the second implementation all write 01's answers.
 fn by_journal(placer: &str, told: &str, journal: &[u8], answers: &[u8]) {
     assert_eq!(output_of(placer, journal).as_deref(), Ok(answers), "{told}: the program");
-    let found = journal_by_both(told, journal, journal.len() / RECORD + 1);
+    let found = journal_by_both(told, journal, answers.len());
     assert_eq!(found.as_deref(), Ok(answers), "{told}: the journal call");
 }
 

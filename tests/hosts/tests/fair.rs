@@ -8,7 +8,7 @@ use reference::record::{read, RING};
 
 /// A request by a replay of that one call; in ring mode the record's cursor says which place was granted.
 fn ask_replay(tables: &mut Tables, job: usize, cpu: usize) -> Option<Grant> {
-    let call = words(&Call::Request { job, cpu })?;
+    let call = words(&Call::Request { job, cpu });
     let mut answers = [0];
     let Tables { counts, cpus, distances, pages, jobs } = tables;
     spirerivet::replay(counts, cpus, distances, pages, jobs, &call, &mut answers).ok()?;

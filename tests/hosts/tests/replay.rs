@@ -1,8 +1,13 @@
 //! `replay` against the second implementation's calls one by one.
 
-use hosts::{answer_word, list_refusal, packed, seeds, Lent, LentTables, RUBBISH};
+use hosts::{answer_word, install_in, list_refusal, packed, seeds, Lent, LentTables, RUBBISH};
 use reference::calls::{apply, Call, Tables};
+use reference::examples::machine_a;
 use reference::generate::{journal_parts, list, tables, Dice};
+
+/// Numbers of places over 16: the next one, those about 64, and such as are small when cut or shifted.
+const LONG: [u64; 16] =
+    [17, 63, 64, 65, 66, 255, 256, 257, 320, 65_537, 1 << 32, 1 << 32 | 1, 1 << 61 | 1, 1 << 63, 1 << 63 | 1, u64::MAX];
 
 /// A replay by the library, and everything it was lent.
 struct Run {
@@ -74,7 +79,7 @@ fn a_replay_is_its_calls_one_by_one() {
     for seed in seeds(120) {
         for (told, start, calls) in lists(seed) {
             let mut dice = Dice::new(seed);
-            let (words, calls) = packed(&mut dice, &calls);
+            let words = packed(&mut dice, &calls);
             let room = calls.len() + dice.below(3);
             ran += check(&told, &start, &words, &calls, room);
         }
@@ -83,15 +88,22 @@ fn a_replay_is_its_calls_one_by_one() {
     assert!(ran > 30_000, "{ran}");
 }
 
-/// Damages a list in one way; gives the answer cells to lend.
-fn damage(dice: &mut Dice, words: &mut Vec<u64>) -> usize {
-    let calls = words.len() / 16;
-    let at = 16 * dice.below(calls);
+/// Damages a list in one way, or makes a call of it an install that says too many places, which is no damage; gives the
+/// answer cells to lend.
+fn damage(dice: &mut Dice, words: &mut Vec<u64>, calls: &mut [Call]) -> usize {
+    let turn = dice.below(calls.len());
+    let at = 16 * turn;
     match dice.below(7) {
         0 => words[at] = dice.pick(&[0, 6, 7, 255, 256, 257, 1 << 32, u64::MAX]),
         1 => {
             words[at] = 4;
-            words[at + 5] = dice.pick(&[65, 66, 255, 256, 320, 1 << 32, u64::MAX]);
+            words[at + 5] = dice.pick(&LONG);
+            if dice.chance(80) {
+                words[at + 2] = dice.below(8) as u64;
+                words[at + 3] = dice.pick(&[0, 0, 0, 1, 2, 3]);
+                words[at + 4] = dice.pick(&[0, 0, 1, 3, u64::MAX]);
+            }
+            calls[turn] = install_in(&words[at..at + 16]);
         }
         2 => words.truncate(at + dice.between(1, 15)),
         3 => {
@@ -99,14 +111,14 @@ fn damage(dice: &mut Dice, words: &mut Vec<u64>) -> usize {
                 words.push(dice.below(6) as u64);
             }
         }
-        4 => return dice.below(calls),
+        4 => return dice.below(calls.len()),
         5 => return 0,
         _ => {}
     }
     if dice.chance(30) {
-        return dice.below(calls);
+        return dice.below(calls.len());
     }
-    calls
+    calls.len()
 }
 
 #[test]
@@ -114,14 +126,14 @@ fn damaged_lists_change_nothing() {
     let mut refused = [0; 14];
     for seed in seeds(1_500) {
         let mut dice = Dice::new(seed ^ 0xDA4A);
-        let (start, calls) = if seed % 3 == 0 {
+        let (start, mut calls) = if seed % 3 == 0 {
             let (_, start, calls) = tables(seed, 12);
             (start, calls)
         } else {
             list(seed, 12)
         };
-        let (mut words, calls) = packed(&mut dice, &calls);
-        let room = damage(&mut dice, &mut words);
+        let mut words = packed(&mut dice, &calls);
+        let room = damage(&mut dice, &mut words, &mut calls);
         check(&format!("damaged list seed {seed}"), &start, &words, &calls, room);
         refused[usize::from(list_refusal(&start, &words, room).unwrap_or(0))] += 1;
     }
@@ -132,15 +144,91 @@ fn damaged_lists_change_nothing() {
 }
 
 #[test]
-fn an_install_of_17_to_64_places_is_refused_6() {
+fn an_install_of_over_16_places_is_refused_6() {
     let (mut start, _) = list(3, 1);
     start.jobs[..6].copy_from_slice(&[0, 0, 1, 0, 0, 0]);
-    for length in 0..=64 {
-        let call = Call::Install { job: 0, mode: 5, flag: 0, mask: 0, places: vec![0; length] };
-        let (words, calls) = packed(&mut Dice::new(7), &[call]);
+    for length in (0..=80).chain([255, 256, 257, 65_536]) {
+        let calls = [Call::Install { job: 0, mode: 5, flag: 0, mask: 0, places: vec![0; length] }];
+        let words = packed(&mut Dice::new(7), &calls);
         check("many places", &start, &words, &calls, 1);
         let refused = run(&start, &words, 1).answers.now()[0] as u8;
         assert_eq!(refused, if (1..=16).contains(&length) { 0 } else { 6 }, "{length}");
+    }
+}
+
+/// Machine A with job 0 allowed all nodes, job 1 none, a malformed record for job 2, and no job 8. Then job, mode, flag and
+/// mask of installs, and the refusal of each if it says over 16 places.
+fn long_installs() -> (Tables, Vec<([u64; 4], u8)>) {
+    let mut start = machine_a();
+    start.jobs[12] = 7;
+    let all = u64::MAX;
+    let mut installs = vec![
+        ([8, 7, 3, all], 2),
+        ([all, 5, 0, 0], 2),
+        ([2, 7, 3, all], 4),
+        ([2, 5, 0, 0], 4),
+        ([1, 7, 0, all], 5),
+        ([0, all, 0, 0], 5),
+        ([0, 5, 3, all], 5),
+        ([0, 5, 1, 0], 5),
+        ([0, 1, 2, 0], 5),
+        ([1, 5, 0, 0], 7),
+        ([1, 2, 0, all], 7),
+        ([0, 5, 0, 1], 6),
+    ];
+    // Each of these would be granted with the places that its mode takes.
+    installs.extend((0..=6).map(|mode| ([0, mode, 0, u64::from((1..=3).contains(&mode))], 6)));
+    (start, installs)
+}
+
+#[test]
+fn any_number_of_places_is_refused_in_the_order_of_install() {
+    let (start, installs) = long_installs();
+    let mut dice = Dice::new(11);
+    for length in LONG {
+        let told = format!("{length} places");
+        let mut words = Vec::new();
+        for ([job, mode, flag, mask], _) in &installs {
+            words.extend([4, *job, *mode, *flag, *mask, length]);
+            words.extend((6..16).map(|_| dice.next()));
+        }
+        let mut calls: Vec<Call> = words.chunks(16).map(install_in).collect();
+        // The run goes on after them.
+        calls.push(Call::Install { job: 0, mode: 5, flag: 0, mask: 0, places: vec![3] });
+        calls.push(Call::Request { job: 0, cpu: 0 });
+        words.extend(packed(&mut dice, &calls[installs.len()..]));
+        assert_eq!(check(&told, &start, &words, &calls, calls.len()), calls.len());
+        let found = run(&start, &words, calls.len()).answers;
+        for (answer, (install, refusal)) in found.now().iter().zip(&installs) {
+            assert_eq!(*answer as u8, *refusal, "{told}: {install:?}");
+        }
+        assert_eq!(found.now().last(), Some(&(3 << 8 | 4 << 32)), "{told}: node 3, page 4");
+    }
+}
+
+#[test]
+fn any_number_of_places_leaves_the_refusals_of_a_list() {
+    let start = machine_a();
+    let broken = Tables { cpus: vec![4], ..machine_a() };
+    for length in LONG {
+        let mut words = [[0; 16]; 3].concat();
+        for call in words.chunks_mut(16) {
+            call[..6].copy_from_slice(&[4, 0, 5, 0, 0, length]);
+        }
+        let calls: Vec<Call> = words.chunks(16).map(install_in).collect();
+        assert_eq!(check("room", &start, &words, &calls, 3), 3);
+        for (told, start, words, room, refusal) in [
+            ("too little room", &start, &words[..], 2, 11),
+            ("cut short", &start, &words[..47], 3, 13),
+            ("cut short, too little room", &start, &words[1..], 0, 13),
+            ("bad tables", &broken, &words[..47], 0, 1),
+        ] {
+            assert_eq!(list_refusal(start, words, room), Some(refusal), "{told}");
+            check(told, start, words, &calls, room);
+        }
+        words[32] = 6;
+        assert_eq!(list_refusal(&start, &words, 0), Some(13));
+        check("an unknown kind after them", &start, &words, &calls, 0);
     }
 }
 

@@ -1,64 +1,71 @@
--- `journal` goes by the verdict on the machine record.
+-- `journal` goes by the verdict on the machine record, and by the room that the answers need.
 -- Assumes nothing.
-use mathlib.Core.Path.{sym, ap, _∙_}
-use Rattle.journal.specs.Enums.{openingOf}
-use Rattle.journal.proofs.WholeJournal.{short-refused, answered, fault-answered}
+use Prim.Native.Nat.{_≤_}
+use mathlib.Core.Path.{_≡_, sym, ap, _∙_}
+use native.Mathlib.Omega.{arith}
 use borrow.Author.Needs.{needs}
+use lib.ListN.{length}
+use Rattle.rules.specs.Answers.{numberOf, decisionOf}
+use Rattle.rules.specs.Decisions.{refuse, accept}
+use Rattle.rules.specs.Journal.{machineIn, startOf, opening, journal}
+use Rattle.journal.proofs.MachineRecord.{good-opening}
+use Rattle.journal.proofs.Output.{rest-lent}
+use Rattle.journal.proofs.BookRun.{journal-opened}
+use Rattle.journal.proofs.Whole.{too-short, answered, no-answer, one-answer}
 use Rattle.journal.proofs.journal.Statement.{statement}
 use Rattle.journal.proofs.journal.Tie as tie
 
+-- the start, from the verdict
+abbrev start : tie.After-verdict → tie.Start
+start c = c .before .before .before
+
+-- the machine record is good
+good : (c : tie.After-known-told) → opening (start (c .before .before .before) .args .input .now) ≡ accept (c .before .opened .given .0 .0)
+good c = sym (c .before .before .before .verdict .ensures) ∙ ap decisionOf (c .before .opened .given .1)
+
+-- the size of the record lies in the input
+inside : (c : tie.After-known-told) → c .before .opened .given .0 .0 ≤ length (start (c .before .before .before) .args .input .now)
+inside c = let g = good-opening (start (c .before .before .before) .args .input .now) (good c) in omega (arith, g .size, g .whole)
+
+-- the records after it, from where their answers are counted
+abbrev found : tie.After-answers-size → tie.After-known-told
+found c = c .before .before
+
+-- so much room is needed
+needed : (c : tie.After-answers-size) → c .answers-size .result ≡ length (journal (start (found c .before .before .before) .args .input .now))
+needed c =
+    let bs = start (found c .before .before .before) .args .input .now in
+    let size = rw (rest-lent bs (found c .before .opened .given .0 .0)) at (c .answers-size .ensures) in
+    size (machineIn bs) (startOf (machineIn bs)) ∙ ap length (sym (journal-opened bs (good (found c))))
+
 returns : tie.Need-returns
-returns c = short-refused _ _ (c .if1 .taken)
+returns c = too-short _ _ (omega (arith, needed (c .before)))
 
-verdict-requires : tie.Need-verdict-requires
-verdict-requires c κs = search needs
-
-enum-known-opening : tie.Need-enum-known-opening
-enum-known-opening c = search needs
-
-run-opened-requires : tie.Need-run-opened-requires
-run-opened-requires c κs = (sym (c .before .before .before .before .verdict .ensures) ∙ ap openingOf (c .before .before .opening .given .1), search needs)
-
-enum-known-opening-2 : tie.Need-enum-known-opening-2
-enum-known-opening-2 c = search needs
-
-fault-bytes-requires : tie.Need-fault-bytes-requires
-fault-bytes-requires c κs = search needs
-
-slice-aggregate-copy : tie.Need-slice-aggregate-copy
-slice-aggregate-copy c = search needs
-
-copy-requires : tie.Need-copy-requires
-copy-requires c κs = search needs
-
-same-length : tie.Need-same-length
-same-length c = search needs
-
-returns-2 : tie.Need-returns-2
-returns-2 c =
-    let d = c .before .before .run-opened .ensures in
-    answered _ _ (c .before .before .before .before .before .before .before .before .if1 .left) (d .0) (d .1)
-
-same-length-2 : tie.Need-same-length-2
-same-length-2 c = search needs
+run-all-requires : tie.Need-run-all-requires
+run-all-requires c κs = let sized = c .before .before in (good (found sized), omega (arith, needed sized))
 
 returns-3 : tie.Need-returns-3
 returns-3 c =
-    fault-answered _ _ (c .before .before .before .before .before .before .before .before .before .before .if1 .left) (sym (c .before .before .before .before .before .before .before .before .before .verdict .ensures) ∙ ap openingOf (c .before .before .before .before .before .before .before .opening2 .given .1)) (c .before .before .before .before .before .fault-bytes .ensures) (c .before .before .copy .ensures .0) (c .before .before .copy .ensures .1)
+    let ran = c .before .before in
+    let sized = ran .before .before .before in
+    answered _ _ (omega (arith, needed sized)) (ran .run-all .ensures .0) (ran .run-all .ensures .1)
+
+-- the machine record is refused
+bad : (c : tie.After-known-told2) → opening (start (c .before .before .before) .args .input .now) ≡ refuse (numberOf (c .before .opened2 .given .0 .0))
+bad c = sym (c .before .before .before .verdict .ensures) ∙ ap decisionOf (c .before .opened2 .given .1)
+
+returns-2 : tie.Need-returns-2
+returns-2 c = no-answer _ _ (bad (c .before)) (c .if2 .taken)
+
+returns-4 : tie.Need-returns-4
+returns-4 c =
+    let copied = c .before .before in
+    let told = copied .before .before .before in
+    one-answer _ _ (bad (told .before .before)) (told .before .if2 .left) (told .fault .ensures) (copied .copy .ensures .0) (copied .copy .ensures .1)
 
 pub journal-spec : {M : Type 1} → statement M
 journal-spec =
     tie.close
-    (tie.spec
-    returns
-    verdict-requires
-    enum-known-opening
-    run-opened-requires
-    enum-known-opening-2
-    fault-bytes-requires
-    slice-aggregate-copy
-    copy-requires
-    same-length
-    returns-2
-    same-length-2
-    returns-3)
+    (tie.spec (search needs) (search needs) inside (λ c. let i = inside c in search needs) (search needs) (search needs) returns
+    run-all-requires (search needs) returns-2 (search needs) (search needs) (search needs) (search needs) returns-3 (search needs)
+    returns-4)

@@ -14,19 +14,10 @@ use Rattle.nodelist.proofs.FormLaws.{refused-nodes, refused-allowed, re
 use Rattle.nodelist.proofs.read_nodes.Statement.{statement}
 use Rattle.nodelist.proofs.read_nodes.Tie as tie
 
-of-requires : tie.Need-of-requires
-of-requires c κs = search needs
-
-nodes-ok-requires : tie.Need-nodes-ok-requires
-nodes-ok-requires c κs = search needs
-
 returns : tie.Need-returns
 returns c =
     let a = c .before .before .before .before .args in
     sym (refused-nodes (a .nodes) (a .allowed) (a .text .now) (sym (c .before .nodes-ok .ensures) ∙ not-true (c .before .nodes-ok .result) (c .if1 .taken)))
-
-below-requires : tie.Need-below-requires
-below-requires c κs = search needs
 
 -- N is in order once it is tested
 nodes-fine : (c : tie.After-below) → nodesOk (c .before .before .before .before .before .args .nodes) ≡ true
@@ -76,11 +67,4 @@ pub read-nodes-spec : {M : Type 1} → statement M
 read-nodes-spec =
     tie.close
     (tie.spec
-    of-requires
-    nodes-ok-requires
-    returns
-    below-requires
-    returns-2
-    returns-3
-    read-form-requires
-    returns-4)
+    (search needs) (search needs) returns (search needs) returns-2 returns-3 read-form-requires returns-4)

@@ -7,24 +7,16 @@ use borrow.Author.Tests.{not-true, not-false}
 use borrow.Author.Needs.{needs}
 use Rattle.rules.specs.Machine.{nodesOk}
 use Rattle.rules.specs.Masks.{below}
-use Rattle.nodelist.specs.Writer.{textWritten}
+use Rattle.rules.specs.Decisions.{written}
+use Rattle.rules.specs.Text.{textOf}
 use Rattle.nodelist.proofs.WriteLaws.{write-nodes-refused, write-mask-refused, write-text}
 use Rattle.nodelist.proofs.write_nodes.Statement.{statement}
 use Rattle.nodelist.proofs.write_nodes.Tie as tie
-
-of-requires : tie.Need-of-requires
-of-requires c κs = search needs
-
-nodes-ok-requires : tie.Need-nodes-ok-requires
-nodes-ok-requires c κs = search needs
 
 returns : tie.Need-returns
 returns c =
     let a = c .before .before .before .before .args in
     sym (write-nodes-refused (a .mask) (a .out .now) (a .nodes) (sym (c .before .nodes-ok .ensures) ∙ not-true (c .before .nodes-ok .result) (c .if1 .taken)))
-
-below-requires : tie.Need-below-requires
-below-requires c κs = search needs
 
 -- N is in order once it is tested
 nodes-fine : (c : tie.After-below) → nodesOk (c .before .before .before .before .before .args .nodes) ≡ true
@@ -44,12 +36,6 @@ returns-2 c =
     let e : below (a .nodes) (a .mask) ≡ false = sym (below-is b) ∙ not-true (b .below .result) (c .if2 .taken) in
     sym (write-mask-refused (a .mask) (a .out .now) (a .nodes) (nodes-fine b) e)
 
-write-text-requires : tie.Need-write-text-requires
-write-text-requires c κs = search needs
-
-same-length : tie.Need-same-length
-same-length c = search needs
-
 returns-3 : tie.Need-returns-3
 returns-3 c =
     let d = c .before .before .before .before in
@@ -58,18 +44,11 @@ returns-3 c =
     let a = o .before .before .args in
     let e : below (a .nodes) (a .mask) ≡ true = sym (below-is b) ∙ not-false (b .below .result) (d .if2 .left) in
     c .before .before .write-text .ensures
-    ∙ ap (λ (m : ℕ). textWritten m (a .out .now)) (o .of .ensures)
+    ∙ ap (λ (m : ℕ). written (a .out .now) (textOf m)) (o .of .ensures)
     ∙ sym (write-text (a .mask) (a .out .now) (a .nodes) (nodes-fine b) e)
 
 pub write-nodes-spec : {M : Type 1} → statement M
 write-nodes-spec =
     tie.close
     (tie.spec
-    of-requires
-    nodes-ok-requires
-    returns
-    below-requires
-    returns-2
-    write-text-requires
-    same-length
-    returns-3)
+    (search needs) (search needs) returns (search needs) returns-2 (search needs) (search needs) returns-3)

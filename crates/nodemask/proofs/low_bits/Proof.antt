@@ -10,9 +10,6 @@ use Rattle.rules.proofs.Masks.{one-shifted}
 use Rattle.nodemask.proofs.low_bits.Statement.{statement}
 use Rattle.nodemask.proofs.low_bits.Tie as tie
 
-shl-result : tie.Need-shl-result
-shl-result c = search needs
-
 sub-result : tie.Need-sub-result
 sub-result c = let n = c .before .args .n in omega (arith, one-shifted 64 n (omega arith), pow-pos n)
 
@@ -23,4 +20,5 @@ returns-2 : tie.Need-returns-2
 returns-2 c = let e : 64 ≡ c .before .args .n = omega arith in ap allNodes e
 
 pub low-bits-spec : {M : Type 1} → statement M
-low-bits-spec = tie.close (tie.spec shl-result sub-result returns returns-2)
+low-bits-spec =
+    tie.close (tie.spec (search needs) sub-result returns returns-2)

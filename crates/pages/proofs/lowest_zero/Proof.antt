@@ -23,33 +23,12 @@ cast-len c = record { fits = omega arith }
 loop-holds : tie.Need-loop-holds Inv-loop μ-loop
 loop-holds c = (refl, omega arith, omega arith, omega (arith, end-le (c .before .args .block .now)))
 
-cast-index-of-zero : tie.Need-cast-index-of-zero Inv-loop μ-loop
-cast-index-of-zero c = search needs
-
-shared-slice-read-index-of-zero : tie.Need-shared-slice-read-index-of-zero Inv-loop μ-loop
-shared-slice-read-index-of-zero c = search needs
-
-index-of-zero-requires : tie.Need-index-of-zero-requires Inv-loop μ-loop
-index-of-zero-requires c κs = search needs
-
-lower-requires : tie.Need-lower-requires Inv-loop μ-loop
-lower-requires c κs = search needs
-
-add-i : tie.Need-add-i Inv-loop μ-loop
-add-i c = search needs
-
-loop-less : tie.Need-loop-less Inv-loop μ-loop
-loop-less c = search needs
-
 loop-again : tie.Need-loop-again Inv-loop μ-loop
 loop-again c =
     let l = c .before .before .before .before .loop in
     let b = c .before .before .before .before .before .before .args .block .now in
     let e = c .lower .ensures ∙ ap (min (l .lowest)) (c .before .index-of-zero .ensures) in
     (refl, omega arith, omega (arith, c .lower .ensures), lowest-step b (l .i) (l .lowest) (omega arith) (omega arith) e ∙ l .inv .3)
-
-cast-result : tie.Need-cast-result Inv-loop μ-loop
-cast-result c = search needs
 
 returns : tie.Need-returns Inv-loop μ-loop
 returns c =
@@ -62,16 +41,5 @@ pub lowest-zero-spec : {M : Type 1} → statement M
 lowest-zero-spec =
     tie.close
     (tie.spec
-    Inv-loop
-    μ-loop
-    cast-len
-    loop-holds
-    cast-index-of-zero
-    shared-slice-read-index-of-zero
-    index-of-zero-requires
-    lower-requires
-    add-i
-    loop-less
-    loop-again
-    cast-result
-    returns)
+    Inv-loop μ-loop cast-len loop-holds (search needs) (search needs) (search needs) (search needs) (search needs) (search needs) loop-again
+    (search needs) returns)

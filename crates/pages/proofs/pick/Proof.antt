@@ -29,18 +29,6 @@ skip-requires-2 c κs = (c .before .skip .ensures .0, omega arith)
 loop-holds : tie.Need-loop-holds Inv-loop μ-loop
 loop-holds c = (c .skip2 .ensures .0, refl, sym (shift-zero _) ∙ c .before .before .skip .ensures .1 ∙ c .skip2 .ensures .1)
 
-block-end-requires : tie.Need-block-end-requires Inv-loop μ-loop
-block-end-requires c κs = search needs
-
-sub-lowest-zero : tie.Need-sub-lowest-zero Inv-loop μ-loop
-sub-lowest-zero c = search needs
-
-part-lowest-zero-start : tie.Need-part-lowest-zero-start Inv-loop μ-loop
-part-lowest-zero-start c = search needs
-
-part-lowest-zero-end : tie.Need-part-lowest-zero-end Inv-loop μ-loop
-part-lowest-zero-end c = search needs
-
 lowest-zero-requires : tie.Need-lowest-zero-requires Inv-loop μ-loop
 lowest-zero-requires c κs =
     let l = c .before .before .before .before .loop in
@@ -111,21 +99,5 @@ pub pick-spec : {M : Type 1} → statement M
 pick-spec =
     tie.close
     (tie.spec
-    Inv-loop
-    μ-loop
-    skip-requires
-    skip-requires-2
-    loop-holds
-    block-end-requires
-    sub-lowest-zero
-    part-lowest-zero-start
-    part-lowest-zero-end
-    lowest-zero-requires
-    add-at
-    slice-write-part
-    same-length
-    returns
-    loop-less
-    loop-again
-    same-length-2
-    returns-2)
+    Inv-loop μ-loop skip-requires skip-requires-2 loop-holds (search needs) (search needs) (search needs) (search needs)
+    lowest-zero-requires add-at slice-write-part same-length returns loop-less loop-again same-length-2 returns-2)

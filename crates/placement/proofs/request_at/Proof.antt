@@ -1,148 +1,130 @@
--- `request_at` meets its contract.
+-- `request_at` meets its contract: the tests, then the search, then the turn.
 -- Assumes nothing.
-use Prim.Native.Nat.{_+_}
-use mathlib.Core.Path.{_≡_, refl, sym, ap, _∙_}
-use mathlib.Core.Bool.{true}
+use mathlib.Core.Path.{_≡_, sym, ap, _∙_}
 use native.Mathlib.Omega.{arith}
-use borrow.Author.Tests.{not-true, not-false}
-use lib.ListN.{length}
-use Rattle.rules.specs.Records.{Job, wellFormed}
-use Rattle.rules.proofs.WellFormed.{formed}
+use borrow.Author.Needs.{needs}
+use borrow.Author.Tests.{ltb-true}
+use lib.ListN.{getD}
+use Rattle.rules.specs.Machine.{Machine}
+use Rattle.rules.specs.Records.{Record, recordAt, wellFormed}
+use Rattle.rules.specs.Decisions.{accept}
+use Rattle.rules.specs.Calls.{Tables, tablesOf, admitted}
+use Rattle.rules.proofs.Admission.{Passes, admitted-passes}
 use Rattle.records.specs.Jobs.{jobOf, recordOf}
 use Rattle.machine.specs.Tables.{machineOf}
-use Rattle.placement.specs.Grants.{firstGiven, givenOf, markGiven}
-use Rattle.placement.specs.Lent.{tablesOf}
-use Rattle.placement.proofs.Requests.{ready, no-job, no-cpu, malformed, no-room, given, asked, user-word}
-use borrow.Author.Needs.{needs}
+use Rattle.placement.specs.Grants.{Searchable}
+use Rattle.placement.proofs.Requests.{searchable, request-refused, request-served}
 use Rattle.placement.proofs.request_at.Statement.{statement}
 use Rattle.placement.proofs.request_at.Tie as tie
 
-returns : tie.Need-returns
-returns c = no-job _ _ _ _ (c .before .before .before .before .before .before .pre) (c .if1 .taken)
+-- the machine and the tables at the call
+abbrev machine : tie.Start → Machine
+machine s = machineOf (s .args .counts .now) (s .args .cpus .now) (s .args .distances .now)
 
-returns-2 : tie.Need-returns-2
-returns-2 c = no-cpu _ _ _ _ (c .before .before .before .before .before .before .before .pre) (c .before .if1 .left) (c .if2 .taken)
+abbrev tables : tie.Start → Tables
+tables s = tablesOf (s .args .pages .now) (s .args .jobs .now)
+
+-- the call, from the place after the tests; and the place where they are known to be passed, from the place after the record is decoded
+abbrev call : tie.After-admit → tie.Start
+call c = c .before .before .before .before .before .before .before .before
+
+abbrev passed : tie.After-job → tie.After-enum-told
+passed c = c .before .before .before .before .before .before
+
+-- refused by a test
+returns : tie.Need-returns
+returns c =
+    let tested = c .before .before .before in
+    let s = call tested in
+    request-refused (machine s) (tables s) (s .args .job) (s .args .cpu) (rw (c .before .admission .given .1) at (tested .admit .ensures))
+
+-- the tests are passed
+let-through : (c : tie.After-enum-told) →
+    let s = call (c .before .before) in
+    accept (recordAt (s .args .jobs .now) (s .args .job)) ≡ admitted (machine s) (tables s) (s .args .job) (s .args .cpu)
+let-through c = rw (c .enum-told .given .1) at (c .before .before .admit .ensures)
+
+passes : (c : tie.After-enum-told) → let s = call (c .before .before) in Passes (machine s) (tables s) (s .args .job) (s .args .cpu)
+passes c = admitted-passes _ _ _ _ (sym (let-through c))
 
 load-requires : tie.Need-load-requires
-load-requires c κs = search needs
+load-requires c κs = ltb-true _ _ (passes (c .before) .job)
 
-well-formed-requires : tie.Need-well-formed-requires
-well-formed-requires c κs = search needs
+shared-slice-read-grant-page : tie.Need-shared-slice-read-grant-page
+shared-slice-read-grant-page c = ltb-true _ _ (passes (c .before .before .before .before) .cpu)
 
-same-length : tie.Need-same-length
-same-length c = search needs
+-- the record that is loaded, and the job decoded from it
+loaded : (c : tie.After-job) →
+    let s = call (passed c .before .before) in
+    recordOf (c .before .before .before .before .load .result) ≡ recordAt (s .args .jobs .now) (s .args .job)
+loaded c = c .before .before .before .before .load .ensures
 
-returns-3 : tie.Need-returns-3
-returns-3 c =
-    malformed _ _ _ _ (c .before .before .before .before .before .before .before .before .before .before .before .pre) (c .before .before .before .before .before .if1 .left) (c .before .before .before .before .if2 .left)
-    (ap (wellFormed _) (sym (c .before .before .load .ensures)) ∙ sym (c .before .well-formed .ensures) ∙ not-true _ (c .if3 .taken))
+decoded : (c : tie.After-job) → let s = call (passed c .before .before) in jobOf (c .job .result) ≡ recordAt (s .args .jobs .now) (s .args .job)
+decoded c = c .job .ensures _ (ap (wellFormed _) (loaded c) ∙ passes (passed c) .formed) ∙ loaded c
 
-job-requires : tie.Need-job-requires
-job-requires c κs = search needs
+-- its allowed nodes are the limit
+limited : (c : tie.After-job) → c .before .before .before .before .load .result .allowed .0 ≡ jobOf (c .job .result) .allowed
+unfolding recordOf
+limited c = ap (λ (r : Record). r .allowed) (loaded c ∙ sym (decoded c))
 
-shared-slice-read-t28 : tie.Need-shared-slice-read-t28
-shared-slice-read-t28 c = search needs
-
-add-grant-page : tie.Need-add-grant-page
-add-grant-page c = omega (arith, ready _ _ (c .before .before .before .before .before .before .before .before .before .before .before .before .before .before .before .pre) .few-jobs)
+-- its search may begin
+search-ok : (c : tie.After-job) →
+    let a = call (passed c .before .before) .args in
+    let limit = c .before .before .before .before .load .result .allowed .0 in
+    Searchable (a .counts .now) (a .distances .now) (a .pages .now) limit (jobOf (c .job .result)) (getD (a .cpus .now) (a .cpu) 0) (a .job)
+search-ok c =
+    let s = call (passed c .before .before) in
+    searchable (machine s) (tables s) (s .args .job) (s .args .cpu) (decoded c) (limited c) (passes (passed c))
 
 cast-grant-page : tie.Need-cast-grant-page
-cast-grant-page c = omega (arith, ready _ _ (c .before .before .before .before .before .before .before .before .before .before .before .before .before .before .before .pre) .few-jobs)
-
--- the record is well formed, and the decoded job is what it holds
-found-formed : (c : tie.After-job) →
-    let n = length (c .before .before .before .before .before .before .before .before .before .before .before .before .before .before .args .counts .now) in
-    let rec = c .before .before .before .before .before .load .result in
-    (wellFormed n (recordOf rec) ≡ true) × (jobOf (c .job .result) ≡ recordOf rec)
-found-formed c =
-    let w = sym (c .before .before .before .before .well-formed .ensures) ∙ not-false _ (c .before .before .before .if3 .left) in
-    (w, c .job .ensures _ w)
-
-grant-page-requires : tie.Need-grant-page-requires
-unfolding recordOf
-grant-page-requires c κs =
-    let st = c .before .before .before .before .before .before .before .before .before .before .before .before .before .before .before in
-    let r = ready _ _ (st .pre) in
-    let f = found-formed (c .before) in
-    record {
-      fits = r .fits;
-      square = r .machine .square;
-      from-node = r .machine .cpuNode (st .args .cpu) (c .before .before .before .before .before .before .before .before .if2 .left);
-      formed = ap (wellFormed _) (f .1) ∙ f .0;
-      word = rw (f .1 ∙ c .before .before .before .before .before .before .load .ensures) (user-word (st .args .jobs .now) (st .args .job) (λ k. omega (arith, c .before .before .before .before .before .before .before .before .before .before .slice-known2 .given k)));
-      below-count = formed _ _ (f .0) .allowed-below;
-    }
-
-enum-known-grant : tie.Need-enum-known-grant
-enum-known-grant c = search needs
+cast-grant-page c = omega (arith, search-ok c .ready .job)
 
 store-cursor-requires : tie.Need-store-cursor-requires
-store-cursor-requires c κs = search needs
+store-cursor-requires c κs =
+    let known = c .before .before .before .before .before .before .before in
+    ltb-true _ _ (passes (passed known) .job)
 
-enum-told : tie.Need-enum-told
-enum-told c = search needs
+-- a page is granted
+returns-2 : tie.Need-returns-2
+returns-2 c =
+    let stored = c .before .before in
+    let granted = stored .before .before .before .before .before .before .before in
+    let known = granted .before in
+    let s = call (passed known .before .before) in
+    let by-search = rw (stored .before .before .before .grant .given .1) at (granted .grant-page .ensures) in
+    rw (stored .store-cursor .ensures)
+    (request-served (machine s) (tables s) (s .args .job) (s .args .cpu) (let-through (passed known)) (decoded known) (limited known) by-search)
 
-same-length-2 : tie.Need-same-length-2
-same-length-2 c = search needs
-
-same-length-3 : tie.Need-same-length-3
-same-length-3 c = search needs
-
-returns-4 : tie.Need-returns-4
-unfolding recordOf
-returns-4 c =
-    let st = c .before .before .before .before .before .before .before .before .before .before .before .before .before .before .before .before .before .before .before .before .before .before .before .before .before in
-    let m = machineOf (st .args .counts .now) (st .args .cpus .now) (st .args .distances .now) in
-    let t = tablesOf (st .args .pages .now) (st .args .jobs .now) in
-    let f = found-formed (c .before .before .before .before .before .before .before .before .before .before .before) in
-    let l = c .before .before .before .before .before .before .before .before .before .before .before .before .before .before .before .before .load .ensures in
-    let g = c .before .before .before .before .before .before .before .before .before .grant-page .ensures in
-    let e = ap givenOf (c .before .before .before .before .before .grant .given .1) in
-    given m t (st .args .job) (st .args .cpu) (st .pre) (c .before .before .before .before .before .before .before .before .before .before .before .before .before .before .before .before .before .before .before .if1 .left) (c .before .before .before .before .before .before .before .before .before .before .before .before .before .before .before .before .before .before .if2 .left) (ap (wellFormed _) (sym l) ∙ f .0) _ _ _
-    (sym e ∙ g .0 m refl refl ∙ ap (firstGiven (st .args .counts .now) (st .args .pages .now)) (asked m t (st .args .job) (st .args .cpu) _ _ (f .1 ∙ l) (ap (λ (j : Job). j .allowed) (sym (f .1)))))
-    (g .1 ∙ ap (λ o. markGiven (st .args .pages .now) o (st .args .job + 1)) e) (c .before .before .store-cursor .ensures)
-
-same-length-4 : tie.Need-same-length-4
-same-length-4 c = search needs
-
-same-length-5 : tie.Need-same-length-5
-same-length-5 c = search needs
-
-returns-5 : tie.Need-returns-5
-unfolding recordOf
-returns-5 c =
-    let st = c .before .before .before .before .before .before .before .before .before .before .before .before .before .before .before .before .before .before .before .before in
-    let m = machineOf (st .args .counts .now) (st .args .cpus .now) (st .args .distances .now) in
-    let t = tablesOf (st .args .pages .now) (st .args .jobs .now) in
-    let f = found-formed (c .before .before .before .before .before .before) in
-    let l = c .before .before .before .before .before .before .before .before .before .before .before .load .ensures in
-    let g = c .before .before .before .before .grant-page .ensures in
-    let e = ap givenOf (c .enum-told .given .1) in
-    no-room m t (st .args .job) (st .args .cpu) (st .pre) (c .before .before .before .before .before .before .before .before .before .before .before .before .before .before .if1 .left) (c .before .before .before .before .before .before .before .before .before .before .before .before .before .if2 .left) (ap (wellFormed _) (sym l) ∙ f .0) _
-    (sym e ∙ g .0 m refl refl ∙ ap (firstGiven (st .args .counts .now) (st .args .pages .now)) (asked m t (st .args .job) (st .args .cpu) _ _ (f .1 ∙ l) (ap (λ (j : Job). j .allowed) (sym (f .1)))))
-    (g .1 ∙ ap (λ o. markGiven (st .args .pages .now) o (st .args .job + 1)) e)
+-- no node in the order has a free page
+returns-3 : tie.Need-returns-3
+returns-3 c =
+    let granted = c .before .before .before .before in
+    let known = granted .before in
+    let s = call (passed known .before .before) in
+    let by-search = rw (c .enum-told2 .given .1) at (granted .grant-page .ensures) in
+    request-served (machine s) (tables s) (s .args .job) (s .args .cpu) (let-through (passed known)) (decoded known) (limited known) by-search
 
 pub request-at-spec : {M : Type 1} → statement M
 request-at-spec =
     tie.close
     (tie.spec
+    (λ c κs. search needs)
+    (search needs)
+    (search needs)
+    (search needs)
     returns
-    returns-2
+    (search needs)
     load-requires
-    well-formed-requires
-    same-length
-    returns-3
-    job-requires
-    shared-slice-read-t28
-    add-grant-page
+    shared-slice-read-grant-page
+    (search needs)
     cast-grant-page
-    grant-page-requires
-    enum-known-grant
+    (λ c κs. search-ok c)
+    (search needs)
     store-cursor-requires
-    enum-told
-    same-length-2
-    same-length-3
-    returns-4
-    same-length-4
-    same-length-5
-    returns-5)
+    (search needs)
+    (search needs)
+    (search needs)
+    returns-2
+    (search needs)
+    (search needs)
+    returns-3)

@@ -1,29 +1,37 @@
 -- `clear_at` makes a record fresh.
 -- Assumes nothing.
-use mathlib.Core.Path.{refl}
-use borrow.Author.Tests.{le-ltb, lt-ltb}
-use Rattle.rules.specs.Records.{fresh, openRecords}
-use Rattle.records.specs.Jobs.{jobOf}
-use Rattle.records.proofs.Ways.{both-told, done-told, clear-2, clear-done}
+use mathlib.Core.Bool.{true}
+use mathlib.Core.Path.{_≡_, sym, _∙_}
 use borrow.Author.Needs.{needs}
+use borrow.Author.Tests.{ltb-true, not-true, not-false}
+use Rattle.rules.specs.Calls.{isJob, afterWrites, afterStores, applied, clearDecision, onClear}
 use Rattle.records.proofs.clear_at.Statement.{statement}
 use Rattle.records.proofs.clear_at.Tie as tie
 
+-- the job is there
+found : (c : tie.Else1) → let a = c .before .before .before .args in isJob (a .jobs .now) (a .job) ≡ true
+found c = sym (c .before .has-job .ensures) ∙ not-false _ (c .if1 .left)
+
 returns : tie.Need-returns
-returns c = both-told (clear-2 _ _ _ (c .before .before .pre) (le-ltb _ _ (c .if1 .taken)))
-
-store-requires : tie.Need-store-requires
-store-requires c κs = search needs
-
-same-length : tie.Need-same-length
-same-length c = search needs
+unfolding applied clearDecision onClear
+returns c ledger = rw (c .before .before .before .pre, sym (c .before .has-job .ensures) ∙ not-true _ (c .if1 .taken))
 
 returns-2 : tie.Need-returns-2
-unfolding jobOf openRecords
-returns-2 c =
-    let s = c .before .before .before .before .before .before in
-    done-told (s .args .jobs .now) (s .args .job) fresh _ (clear-done (s .args .nodes) _ _ (s .pre) (lt-ltb _ _ (c .before .before .before .before .if1 .left)))
-    refl (c .before .before .store .ensures)
+unfolding afterWrites afterStores applied clearDecision onClear
+returns-2 c ledger =
+    let store = c .before .before in
+    let made = store .before .before in
+    let there = made .before .before in
+    rw (store .store .ensures, store .before .as-record .ensures, made .fresh .ensures, there .before .before .before .pre, found there)
 
 pub clear-at-spec : {M : Type 1} → statement M
-clear-at-spec = tie.close (tie.spec returns store-requires same-length returns-2)
+clear-at-spec =
+    tie.close
+    (tie.spec
+    (search needs)
+    returns
+    (search needs)
+    (search needs)
+    (λ c κs. ltb-true _ _ (found (c .before .before .before)))
+    (search needs)
+    returns-2)

@@ -1,27 +1,26 @@
 -- `install` does what the rules say, for all inputs.
 -- Assumes nothing.
-use mathlib.Core.Path.{sym, _∙_}
-use borrow.Author.Tests.{not-true, not-false}
-use Rattle.records.proofs.Ways.{both-told, install-1}
+use mathlib.Core.Path.{refl, sym, _∙_}
 use borrow.Author.Needs.{needs}
+use borrow.Author.Tests.{not-true, not-false}
+use Rattle.rules.specs.Calls.{applied, onInstall, installDecision}
 use Rattle.records.proofs.install.Statement.{statement}
 use Rattle.records.proofs.install.Tie as tie
 
-tables-ok-requires : tie.Need-tables-ok-requires
-tables-ok-requires c κs = search needs
-
-returns : tie.Need-returns
-returns c = both-told (install-1 _ _ _ _ _ _ _ (sym (c .before .tables-ok .ensures) ∙ not-true _ (c .if1 .taken)))
-
-install-at-requires : tie.Need-install-at-requires
-install-at-requires c κs = sym (c .before .before .tables-ok .ensures) ∙ not-false _ (c .before .if1 .left)
-
-same-length : tie.Need-same-length
-same-length c = search needs
-
 returns-2 : tie.Need-returns-2
-returns-2 c = search needs
+returns-2 c ledger =
+    let at = c .before .before in
+    let first = sym (at .before .before .padded .ensures) in
+    at .install-at .ensures ledger _ (record { mode = refl; flag = refl; user = refl; len = refl; places = first })
 
 pub install-spec : {M : Type 1} → statement M
+unfolding applied onInstall installDecision
 install-spec =
-    tie.close (tie.spec tables-ok-requires returns install-at-requires same-length returns-2)
+    tie.close
+    (tie.spec
+    (search needs)
+    (λ c ledger. rw (sym (c .before .tables-ok .ensures) ∙ not-true _ (c .if1 .taken)))
+    (search needs)
+    (λ c κs. sym (c .before .before .before .tables-ok .ensures) ∙ not-false _ (c .before .before .if1 .left))
+    (search needs)
+    returns-2)

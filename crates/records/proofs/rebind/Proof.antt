@@ -1,27 +1,19 @@
 -- `rebind` does what the rules say, for all inputs.
 -- Assumes nothing.
 use mathlib.Core.Path.{sym, _∙_}
-use borrow.Author.Tests.{not-true, not-false}
-use Rattle.records.proofs.Ways.{both-told, rebind-1}
 use borrow.Author.Needs.{needs}
+use borrow.Author.Tests.{not-true, not-false}
+use Rattle.rules.specs.Calls.{applied, onRebind, rebindDecision}
 use Rattle.records.proofs.rebind.Statement.{statement}
 use Rattle.records.proofs.rebind.Tie as tie
 
-tables-ok-requires : tie.Need-tables-ok-requires
-tables-ok-requires c κs = search needs
-
-returns : tie.Need-returns
-returns c = both-told (rebind-1 _ _ _ _ (sym (c .before .tables-ok .ensures) ∙ not-true _ (c .if1 .taken)))
-
-rebind-at-requires : tie.Need-rebind-at-requires
-rebind-at-requires c κs = sym (c .before .before .tables-ok .ensures) ∙ not-false _ (c .before .if1 .left)
-
-same-length : tie.Need-same-length
-same-length c = search needs
-
-returns-2 : tie.Need-returns-2
-returns-2 c = search needs
-
 pub rebind-spec : {M : Type 1} → statement M
+unfolding applied onRebind rebindDecision
 rebind-spec =
-    tie.close (tie.spec tables-ok-requires returns rebind-at-requires same-length returns-2)
+    tie.close
+    (tie.spec
+    (search needs)
+    (λ c ledger. rw (sym (c .before .tables-ok .ensures) ∙ not-true _ (c .if1 .taken)))
+    (λ c κs. sym (c .before .before .tables-ok .ensures) ∙ not-false _ (c .before .if1 .left))
+    (search needs)
+    (λ c. c .before .before .rebind-at .ensures))

@@ -1,131 +1,137 @@
 -- `rebind_at` replaces the allowed mask of a record.
 -- Assumes nothing.
-use mathlib.Core.Bool.{true, false, not}
+use mathlib.Core.Bool.{true, not, _&&_}
 use mathlib.Core.Path.{_≡_, sym, ap, _∙_}
-use borrow.Author.Tests.{lt-ltb, le-ltb, not-true, not-false}
-use Rattle.rules.specs.Masks.{isNone, below}
-use Rattle.rules.specs.Records.{Job, jobAt, wellFormed, rebound}
-use Rattle.rules.specs.Calls.{isJob, rebindFits}
-use Rattle.rules.proofs.WellFormed.{some-pos}
-use Rattle.records.specs.Jobs.{jobOf}
-use Rattle.records.proofs.Ways.{both-told, done-told, rebind-2, rebind-4, rebind-6, rebind-7, rebind-9, rebind-done}
 use borrow.Author.Needs.{needs}
+use borrow.Author.Tests.{ltb-true, not-true, not-false}
+use lib.Dec.{eqb}
+use Rattle.rules.specs.Records.{rebound}
+use Rattle.rules.specs.Calls.{isJob, rebindFits, afterWrites, afterStores, applied, rebindDecision, onRebind}
+use Rattle.rules.proofs.WellFormed.{some-pos}
+use Rattle.records.specs.Jobs.{recordOf}
+use Rattle.records.proofs.Judged.{rebindTests, rebind-judged}
 use Rattle.records.proofs.rebind_at.Statement.{statement}
 use Rattle.records.proofs.rebind_at.Tie as tie
 
 -- ---- the tests that have passed, at the place after each
 
-found : (c : tie.Else1) → let a = c .before .before .args in isJob (a .jobs .now) (a .job) ≡ true
-found c = lt-ltb _ _ (c .if1 .left)
+-- the job is there
+found : (c : tie.Else1) → let a = c .before .before .before .args in isJob (a .jobs .now) (a .job) ≡ true
+found c = sym (c .before .has-job .ensures) ∙ not-false _ (c .if1 .left)
 
-read : (c : tie.After-well-formed) → let a = c .before .before .before .before .before .args in
-    wellFormed (a .nodes) (jobAt (a .jobs .now) (a .job)) ≡ c .well-formed .result
-read c = rw (sym (c .before .load .ensures)) (sym (c .well-formed .ensures))
+-- its record is read and well formed: what is left to test
+judged : (c : tie.Else2) → let a = c .before .before .before .before .before .before .before .args in
+    rebindDecision (a .nodes) (a .jobs .now) (a .job) (a .allowed) ≡ rebindTests (a .nodes) (a .job) (recordOf (c .before .before .load .result)) (a .allowed)
+judged c =
+    let there = c .before .before .before .before in
+    rebind-judged _ _ _ (there .before .before .before .pre) (found there) (c .before .before .load .ensures)
+    (sym (c .before .well-formed .ensures) ∙ not-false _ (c .if2 .left)) _
 
-well : (c : tie.Else2) → let a = c .before .before .before .before .before .before .args in wellFormed (a .nodes) (jobAt (a .jobs .now) (a .job)) ≡ true
-well c = read (c .before) ∙ not-false _ (c .if2 .left)
-
-inside : (c : tie.Else3) → let a = c .before .before .before .before .before .before .before .before .args in below (a .nodes) (a .allowed) ≡ true
-inside c = sym (c .before .below .ensures) ∙ not-false _ (c .if3 .left)
-
-some : (c : tie.Else4) → isNone (c .before .before .before .before .before .before .before .before .before .before .args .allowed) ≡ false
-some c = sym (c .before .is-empty .ensures) ∙ c .if4 .left
-
--- the job that is stored has the record that the rules store
-next-is : (c : tie.After-rebound) → let a = c .before .before .before .before .before .before .before .before .before .before .before .before .args in
-    jobOf (c .rebound .result) ≡ rebound (jobAt (a .jobs .now) (a .job)) (a .allowed)
+-- the record that is stored is the one that the rules store
+next-is : (c : tie.After-as-record) → let read = c .before .before .before .before .before .before .before in
+    recordOf (c .as-record .result)
+    ≡ rebound (recordOf (read .before .before .load .result)) (read .before .before .before .before .before .before .before .args .allowed)
 next-is c =
-    let e = c .before .before .before .before .before .before in
-    let a = e .before .before .before .before .before .before .args in
-    c .rebound .ensures
-    ∙ ap (λ (x : Job). rebound x (a .allowed))
-    (c .before .job .ensures (a .nodes) (sym (e .before .well-formed .ensures) ∙ not-false _ (e .if2 .left)) ∙ e .before .before .load .ensures)
+    let read = c .before .before .before .before .before .before .before in
+    let well = sym (read .before .well-formed .ensures) ∙ not-false _ (read .if2 .left) in
+    rw (c .as-record .ensures, c .before .rebound .ensures, c .before .before .job .ensures _ well)
+
+-- the code's last test is the law's
+last : (c : tie.After-is-empty3) → let new = c .before .before .before in
+    rebindFits (recordOf (new .as-record .result))
+    ≡ not (c .before .before .is-empty2 .result && not (eqb (new .as-record .result .flag) 1) && not (c .is-empty3 .result))
+unfolding rebindFits recordOf
+last c = rw (c .before .before .is-empty2 .ensures, c .is-empty3 .ensures)
 
 returns : tie.Need-returns
-returns c = both-told (rebind-2 _ _ _ _ (c .before .before .pre) (le-ltb _ _ (c .if1 .taken)))
-
-load-requires : tie.Need-load-requires
-load-requires c κs = search needs
-
-well-formed-requires : tie.Need-well-formed-requires
-well-formed-requires c κs = search needs
-
-same-length : tie.Need-same-length
-same-length c = search needs
+unfolding applied rebindDecision onRebind
+returns c ledger = rw (c .before .before .before .pre, sym (c .before .has-job .ensures) ∙ not-true _ (c .if1 .taken))
 
 returns-2 : tie.Need-returns-2
-returns-2 c = both-told (rebind-4 _ _ _ _ (c .before .before .before .before .before .before .pre) (found (c .before .before .before .before)) (read (c .before) ∙ not-true _ (c .if2 .taken)))
-
-below-requires : tie.Need-below-requires
-below-requires c κs = search needs
-
-same-length-2 : tie.Need-same-length-2
-same-length-2 c = search needs
+unfolding applied rebindDecision onRebind
+returns-2 c ledger =
+    let there = c .before .before .before .before in
+    rw (
+      there .before .before .before .pre,
+      found there,
+      sym (c .before .before .load .ensures),
+      sym (c .before .well-formed .ensures) ∙ not-true _ (c .if2 .taken),
+    )
 
 returns-3 : tie.Need-returns-3
-returns-3 c = both-told (rebind-6 _ _ _ _ (c .before .before .before .before .before .before .before .before .pre) (found (c .before .before .before .before .before .before)) (well (c .before .before)) (sym (c .before .below .ensures) ∙ not-true _ (c .if3 .taken)))
-
-is-empty-requires : tie.Need-is-empty-requires
-is-empty-requires c κs = search needs
-
-same-length-3 : tie.Need-same-length-3
-same-length-3 c = search needs
+unfolding applied onRebind
+returns-3 c ledger = rw (judged (c .before .before), sym (c .before .below .ensures) ∙ not-true _ (c .if3 .taken))
 
 returns-4 : tie.Need-returns-4
-returns-4 c = both-told (rebind-7 _ _ _ _ (c .before .before .before .before .before .before .before .before .before .before .pre) (found (c .before .before .before .before .before .before .before .before)) (well (c .before .before .before .before)) (inside (c .before .before)) (sym (c .before .is-empty .ensures) ∙ c .if4 .taken))
-
-job-requires : tie.Need-job-requires
-job-requires c κs = search needs
-
-rebound-requires : tie.Need-rebound-requires
-rebound-requires c κs = some-pos _ (ap not (some (c .before)))
-
-rebind-fits-requires : tie.Need-rebind-fits-requires
-rebind-fits-requires c κs = search needs
-
-same-length-4 : tie.Need-same-length-4
-same-length-4 c = search needs
+unfolding applied onRebind
+returns-4 c ledger =
+    let inside = c .before .before in
+    rw (
+      judged (inside .before .before),
+      sym (inside .before .below .ensures) ∙ not-false _ (inside .if3 .left),
+      sym (c .before .is-empty .ensures) ∙ c .if4 .taken,
+    )
 
 returns-5 : tie.Need-returns-5
-returns-5 c =
-    let fails = ap rebindFits (sym (next-is (c .before .before))) ∙ sym (c .before .rebind-fits .ensures) ∙ not-true _ (c .if5 .taken) in
-    both-told (rebind-9 _ _ _ _ (c .before .before .before .before .before .before .before .before .before .before .before .before .before .before .pre) (found (c .before .before .before .before .before .before .before .before .before .before .before .before)) (well (c .before .before .before .before .before .before .before .before)) (inside (c .before .before .before .before .before .before)) (some (c .before .before .before .before)) fails)
+unfolding applied onRebind
+returns-5 c ledger =
+    let new = c .before .before .before .before in
+    let some = new .before .before .before in
+    let inside = some .before .before in
+    rw (
+      judged (inside .before .before),
+      sym (inside .before .below .ensures) ∙ not-false _ (inside .if3 .left),
+      sym (some .before .is-empty .ensures) ∙ some .if4 .left,
+      sym (next-is new),
+      last (c .before) ∙ ap not (c .if5 .taken),
+    )
 
 store-requires : tie.Need-store-requires
-store-requires c κs = search needs
-
-same-length-5 : tie.Need-same-length-5
-same-length-5 c = search needs
+store-requires c κs =
+    let new = c .before .before .before .before .before in
+    let some = new .before .before .before in
+    let read = some .before .before .before .before in
+    ltb-true _ _ (found (read .before .before .before .before))
 
 returns-6 : tie.Need-returns-6
-returns-6 c =
-    let k = c .before .before .before .before in
-    let s = k .before .before .before .before .before .before .before .before .before .before .before .before .before .before in
-    let fits = ap rebindFits (sym (next-is (k .before .before))) ∙ sym (k .before .rebind-fits .ensures) ∙ not-false _ (k .if5 .left) in
-    done-told (s .args .jobs .now) (s .args .job) _ _
-    (rebind-done (s .args .nodes) _ _ _ (s .pre) (found (k .before .before .before .before .before .before .before .before .before .before .before .before)) (well (k .before .before .before .before .before .before .before .before)) (inside (k .before .before .before .before .before .before)) (some (k .before .before .before .before)) fits)
-    (next-is (k .before .before)) (c .before .before .store .ensures)
+unfolding afterWrites afterStores applied onRebind
+returns-6 c ledger =
+    let fits = c .before .before .before .before in
+    let new = fits .before .before .before .before in
+    let some = new .before .before .before in
+    let inside = some .before .before in
+    rw (
+      judged (inside .before .before),
+      sym (inside .before .below .ensures) ∙ not-false _ (inside .if3 .left),
+      sym (some .before .is-empty .ensures) ∙ some .if4 .left,
+      sym (next-is new),
+      last (fits .before) ∙ ap not (fits .if5 .left),
+      c .before .before .store .ensures,
+    )
 
 pub rebind-at-spec : {M : Type 1} → statement M
 rebind-at-spec =
     tie.close
     (tie.spec
+    (search needs)
     returns
-    load-requires
-    well-formed-requires
-    same-length
+    (λ c κs. ltb-true _ _ (found (c .before)))
+    (search needs)
+    (search needs)
     returns-2
-    below-requires
-    same-length-2
+    (search needs)
+    (search needs)
     returns-3
-    is-empty-requires
-    same-length-3
+    (search needs)
+    (search needs)
     returns-4
-    job-requires
-    rebound-requires
-    rebind-fits-requires
-    same-length-4
+    (search needs)
+    (λ c κs. some-pos _ (ap not (sym (c .before .before .is-empty .ensures) ∙ c .before .if4 .left)))
+    (search needs)
+    (search needs)
+    (search needs)
+    (search needs)
     returns-5
     store-requires
-    same-length-5
+    (search needs)
     returns-6)

@@ -1,6 +1,6 @@
 -- `replay` meets its contract. The loop: i calls are done, and every table has its length.
 -- Assumes nothing.
-use Prim.Native.Nat.{ℕ, _-_, _≤_, _<_}
+use Prim.Native.Nat.{ℕ, _-_, _*_, _^_, _≤_, _<_}
 use mathlib.Core.Path.{_≡_, refl, sym, ap, _∙_}
 use mathlib.Core.Bool.{true}
 use mathlib.Core.List.{List}
@@ -9,12 +9,12 @@ use borrow.Author.Needs.{needs}
 use borrow.Author.Tests.{not-true, not-false}
 use lib.ListN.{length, length-set}
 use Rattle.rules.specs.Machine.{Machine}
-use Rattle.rules.specs.Calls.{Tables, requestTablesOk}
+use Rattle.rules.specs.Calls.{Tables, tablesOf, requestTablesOk}
 use Rattle.machine.specs.Tables.{machineOf}
-use Rattle.placement.specs.Lent.{tablesOf}
-use Rattle.replay.specs.Encoding.{callCount, callOk, callsOk}
+use Rattle.rules.proofs.Decisions.{accepted-some}
+use Rattle.rules.proofs.InOrder.{same-lengths-ok}
+use Rattle.replay.specs.Encoding.{callIn, callCount, callsOk, wordsOf}
 use Rattle.replay.proofs.Words.{part-words, words-whole, call-ok}
-use Rattle.placement.proofs.InOrder.{same-lengths-ok}
 use Rattle.replay.proofs.Run.{Done, begun, advance, tables-refused, calls-refused, room-refused, accepted, finished, stopped, fair-and-owned}
 use Rattle.replay.proofs.replay.Statement.{statement}
 use Rattle.replay.proofs.replay.Tie as tie
@@ -24,157 +24,137 @@ record Held (m : Machine) (pages₀ jobs₀ calls answers₀ : List ℕ) (n : �
   long-pages : length pages ≡ length pages₀
   long-jobs : length jobs ≡ length jobs₀
   long-answers : length answers ≡ length answers₀
-  done : Done m (tablesOf pages₀ jobs₀) calls answers₀ i pages jobs answers
+  done : Done m (tablesOf pages₀ jobs₀) calls answers₀ i (tablesOf pages jobs) answers
 
 abbrev Inv-loop : tie.InvT-loop
-Inv-loop counts cpus distances pages₀ jobs₀ calls answers₀ n i₀ pages jobs answers i = Held (machineOf counts cpus distances) pages₀ jobs₀ calls answers₀ n pages jobs answers i
+Inv-loop counts cpus distances pages₀ jobs₀ calls answers₀ n i₀ pages jobs answers i =
+    Held (machineOf counts cpus distances) pages₀ jobs₀ calls answers₀ n pages jobs answers i
 
 abbrev μ-loop : tie.MeasureT-loop
 μ-loop counts cpus distances pages₀ jobs₀ calls answers₀ n i₀ pages jobs answers i = n - i
 
--- what the replay is lent
-abbrev machine : tie.Start Inv-loop μ-loop → Machine
-machine s = machineOf (s .args .counts .now) (s .args .cpus .now) (s .args .distances .now)
+-- what the replay is lent, at the place after the test of the tables
+abbrev start : tie.After-request-tables-ok Inv-loop μ-loop → tie.Start Inv-loop μ-loop
+start c = let lent = c .before .before .before .before in lent .before .before .before .before .before .before
 
-abbrev tables : tie.Start Inv-loop μ-loop → Tables
-tables s = tablesOf (s .args .pages .now) (s .args .jobs .now)
+abbrev machine : tie.After-request-tables-ok Inv-loop μ-loop → Machine
+machine c = let a = start c .args in machineOf (a .counts .now) (a .cpus .now) (a .distances .now)
+
+abbrev tables : tie.After-request-tables-ok Inv-loop μ-loop → Tables
+tables c = tablesOf (start c .args .pages .now) (start c .args .jobs .now)
+
+-- the place after that test, from the place past it
+abbrev asked : tie.Else1 Inv-loop μ-loop → tie.After-request-tables-ok Inv-loop μ-loop
+asked c = c .before
 
 -- past the first test the tables are in order, past the second the calls
-tables-ok : (c : tie.Else1 Inv-loop μ-loop) → let s = c .before .before .before .before .before .before .before .before .before in requestTablesOk (machine s) (tables s) ≡ true
-tables-ok c = sym (c .before .request-tables-ok .ensures _ refl refl) ∙ not-false _ (c .if1 .left)
+tables-ok : (c : tie.Else1 Inv-loop μ-loop) → requestTablesOk (machine (asked c)) (tables (asked c)) ≡ true
+tables-ok c = sym (asked c .request-tables-ok .ensures) ∙ not-false _ (c .if1 .left)
 
-calls-ok : (c : tie.Else2 Inv-loop μ-loop) → callsOk (c .before .before .before .before .before .before .before .before .before .before .before .args .calls .now) ≡ true
+calls-ok : (c : tie.Else2 Inv-loop μ-loop) → callsOk (start (asked (c .before .before)) .args .calls .now) ≡ true
 calls-ok c = sym (c .before .calls-ok .ensures) ∙ not-false _ (c .if2 .left)
-
-request-tables-ok-requires : tie.Need-request-tables-ok-requires Inv-loop μ-loop
-request-tables-ok-requires c κs = search needs
 
 returns : tie.Need-returns Inv-loop μ-loop
 returns c =
-    let s = c .before .before .before .before .before .before .before .before .before in
-    fair-and-owned (machine s) (tables s) _ (s .args .answers .now) _ _ _ _
-    (stopped _ _ _ (s .args .calls .now) _ _ (tables-refused _ _ _ _ (sym (c .before .request-tables-ok .ensures _ refl refl) ∙ not-true _ (c .if1 .taken))))
-
-calls-ok-requires : tie.Need-calls-ok-requires Inv-loop μ-loop
-calls-ok-requires c κs = search needs
+    let t = c .before in
+    let a = start t .args in
+    let bad = sym (t .request-tables-ok .ensures) ∙ not-true _ (c .if1 .taken) in
+    fair-and-owned (machine t) (tables t) (a .calls .now) (a .answers .now) _ _ _
+    (stopped (machine t) (tables t) (a .calls .now) (a .answers .now) 1 (tables-refused (machine t) (tables t) (a .calls .now) _ bad))
 
 returns-2 : tie.Need-returns-2 Inv-loop μ-loop
 returns-2 c =
-    let s = c .before .before .before .before .before .before .before .before .before .before .before in
-    fair-and-owned (machine s) (tables s) (s .args .calls .now) (s .args .answers .now) _ _ _ _
-    (stopped _ _ _ _ _ _ (calls-refused _ _ _ _ (tables-ok (c .before .before)) (sym (c .before .calls-ok .ensures) ∙ not-true _ (c .if2 .taken))))
+    let t = asked (c .before .before) in
+    let a = start t .args in
+    let bad = sym (c .before .calls-ok .ensures) ∙ not-true _ (c .if2 .taken) in
+    fair-and-owned (machine t) (tables t) (a .calls .now) (a .answers .now) _ _ _
+    (stopped (machine t) (tables t) (a .calls .now) (a .answers .now) 13
+    (calls-refused (machine t) (tables t) (a .calls .now) _ (tables-ok (c .before .before)) bad))
 
 returns-3 : tie.Need-returns-3 Inv-loop μ-loop
 returns-3 c =
-    let s = c .before .before .before .before .before .before .before .before .before .before .before .before in
-    fair-and-owned (machine s) (tables s) (s .args .calls .now) (s .args .answers .now) _ _ _ _
-    (stopped _ _ _ _ _ _ (room-refused _ _ _ _ (tables-ok (c .before .before .before)) (calls-ok (c .before)) (c .if3 .taken)))
+    let t = asked (c .before .before .before) in
+    let a = start t .args in
+    fair-and-owned (machine t) (tables t) (a .calls .now) (a .answers .now) _ _ _
+    (stopped (machine t) (tables t) (a .calls .now) (a .answers .now) 11
+    (room-refused (machine t) (tables t) (a .calls .now) _ (tables-ok (c .before .before .before)) (calls-ok (c .before)) (c .if3 .taken)))
 
 loop-holds : tie.Need-loop-holds Inv-loop μ-loop
-loop-holds c = record { within = search needs; long-pages = refl; long-jobs = refl; long-answers = refl; done = begun _ _ _ _ _ }
+loop-holds c = record { within = search needs; long-pages = refl; long-jobs = refl; long-answers = refl; done = begun _ _ _ _ }
 
-mul-start : tie.Need-mul-start Inv-loop μ-loop
-mul-start c = search needs
+read-call-requires : tie.Need-read-call-requires Inv-loop μ-loop
+read-call-requires c κs =
+    let l = c .before .before in
+    let words = start (asked (l .before .before .before .before)) .args .calls .now in
+    ap length (part-words words (l .loop .i)) ∙ words-whole words (l .loop .i) (c .before .loop-test .taken)
 
-add-end : tie.Need-add-end Inv-loop μ-loop
-add-end c = search needs
+perform-requires : tie.Need-perform-requires Inv-loop μ-loop
+perform-requires c κs =
+    let l = c .before .before .before .before .before .before in
+    let tested = l .before .before .before .before in
+    same-lengths-ok _ (tables (asked tested)) _ (l .loop .inv .long-pages) (l .loop .inv .long-jobs) (tables-ok tested)
 
-mul-step : tie.Need-mul-step Inv-loop μ-loop
-mul-step c = search needs
-
-sub-step : tie.Need-sub-step Inv-loop μ-loop
-sub-step c = search needs
-
-part-step-start : tie.Need-part-step-start Inv-loop μ-loop
-part-step-start c = search needs
-
-part-step-end : tie.Need-part-step-end Inv-loop μ-loop
-part-step-end c = search needs
-
-step-requires : tie.Need-step-requires Inv-loop μ-loop
-step-requires c κs =
-    let s = c .before .before .before .before .before .before .before .before .before .before .before .before .before .before .before .before .before in
-    let h = c .before .before .before .before .loop in
-    let l : h .i < callCount (s .args .calls .now) = c .before .before .before .loop-test .taken in
-    let e = part-words (s .args .calls .now) (h .i) in (
-      same-lengths-ok _ (tables s) _ (h .inv .long-pages) (h .inv .long-jobs) (tables-ok (c .before .before .before .before .before .before .before .before)),
-      ap length e ∙ words-whole _ (h .i) l,
-      ap callOk e ∙ call-ok _ (h .i) (calls-ok (c .before .before .before .before .before .before)) l,
-    )
-
-answer-word-requires : tie.Need-answer-word-requires Inv-loop μ-loop
-answer-word-requires c κs = search needs
+-- an index of a call fits a word: the answers have a place for it
+index-fits : (c : tie.After-answer-word Inv-loop μ-loop) → let l = c .before .before .before .before .before .before .before .before in
+    l .before .before .before .before .loop .i * 8 < 2 ^ 64
+index-fits c =
+    let l = c .before .before .before .before .before .before .before .before in
+    let h = l .before .before .before .before in
+    let s = start (asked (h .before .before .before .before)) in
+    let n : h .loop .i < callCount (s .args .calls .now) = l .before .before .before .loop-test .taken in
+    search (needs, s .good)
 
 mul-answers : tie.Need-mul-answers Inv-loop μ-loop
-mul-answers c = search needs
-
-slice-write-answers : tie.Need-slice-write-answers Inv-loop μ-loop
-slice-write-answers c = search needs
+mul-answers c = omega (arith, index-fits c)
 
 add-i : tie.Need-add-i Inv-loop μ-loop
-add-i c = search needs
-
-loop-less : tie.Need-loop-less Inv-loop μ-loop
-loop-less c = search needs
+add-i c = omega (arith, index-fits c)
 
 loop-again : tie.Need-loop-again Inv-loop μ-loop
 loop-again c =
-    let s = c .before .before .before .before .before .before .before .before .before .before .before .before .before .before .before .before .before .before .before .before .before .before .before in
-    let h = c .before .before .before .before .before .before .before .before .before .before .loop in
-    let d = c .before .before .before .before .before .step in
+    let done = c .before .before .before .before .before in
+    let read = done .before .before .before .before in
+    let l = read .before .before .before in
+    let t = asked (l .before .before .before .before) in
+    let words = start t .args .calls .now in
+    let h = l .loop in
+    let more : h .i < callCount words = read .before .before .loop-test .taken in
+    let x = accepted-some (callIn (wordsOf words (h .i))) (call-ok words (h .i) (calls-ok (l .before .before)) more) in
+    let says = read .read-call .ensures (x .0) (ap callIn (part-words words (h .i)) ∙ x .1) in
     record {
       within = search needs;
-      long-pages = d .kept .1 .1 .1 .0 ∙ h .inv .long-pages;
-      long-jobs = d .kept .1 .1 .1 .1 .0 ∙ h .inv .long-jobs;
+      long-pages = done .perform .kept .1 .1 .1 .0 ∙ h .inv .long-pages;
+      long-jobs = done .perform .kept .1 .1 .1 .1 .0 ∙ h .inv .long-jobs;
       long-answers = simp length-set (h .inv .long-answers);
-      done =
-          advance _ (tables s) _ (s .args .answers .now) (h .i) _ _ _ _ _ _ _ (c .answer-word .ensures) (c .before .before .before .before .before .before .before .before .before .loop-test .taken) (omega arith) (h .inv .done)
-          (rw (part-words (s .args .calls .now) (h .i)) at (d .ensures));
+      done = advance (machine t) (tables t) words (start t .args .answers .now) (h .i) _ _ (x .0) _ _ _ (x .1) (omega arith) (h .inv .done)
+          (done .perform .ensures (x .0) says) (c .answer-word .ensures);
     }
 
-same-length : tie.Need-same-length Inv-loop μ-loop
-same-length c = c .before .loop .inv .long-pages
+same-length-7 : tie.Need-same-length-7 Inv-loop μ-loop
+same-length-7 c = c .before .loop .inv .long-pages
 
-same-length-2 : tie.Need-same-length-2 Inv-loop μ-loop
-same-length-2 c = c .before .loop .inv .long-jobs
+same-length-8 : tie.Need-same-length-8 Inv-loop μ-loop
+same-length-8 c = c .before .loop .inv .long-jobs
 
-same-length-3 : tie.Need-same-length-3 Inv-loop μ-loop
-same-length-3 c = c .before .loop .inv .long-answers
+same-length-9 : tie.Need-same-length-9 Inv-loop μ-loop
+same-length-9 c = c .before .loop .inv .long-answers
 
 returns-4 : tie.Need-returns-4 Inv-loop μ-loop
 returns-4 c =
-    let s = c .before .before .before .before .before .before .before .before .before .before .before .before .before .before in
+    let run = c .before .before in
+    let tested = run .before .before .before in
+    let t = asked tested in
+    let a = start t .args in
     let h = c .before .loop in
-    let e : h .i ≡ callCount (s .args .calls .now) = omega arith in
-    fair-and-owned (machine s) (tables s) (s .args .calls .now) (s .args .answers .now) _ _ _ _
-    (finished _ _ _ _ _ _ _ _ (accepted _ _ _ _ (tables-ok (c .before .before .before .before .before)) (calls-ok (c .before .before .before)) (c .before .before .if3 .left)) (rw e at (h .inv .done)))
+    let all : h .i ≡ callCount (a .calls .now) = omega arith in
+    fair-and-owned (machine t) (tables t) (a .calls .now) (a .answers .now) _ _ _
+    (finished (machine t) (tables t) (a .calls .now) (a .answers .now) _ _
+    (accepted (machine t) (tables t) (a .calls .now) _ (tables-ok tested) (calls-ok (run .before)) (run .if3 .left)) (rw all at (h .inv .done)))
 
 pub replay-spec : {M : Type 1} → statement M
 replay-spec =
     tie.close
-    (tie.spec
-    Inv-loop
-    μ-loop
-    request-tables-ok-requires
-    returns
-    calls-ok-requires
-    returns-2
-    returns-3
-    loop-holds
-    mul-start
-    add-end
-    mul-step
-    sub-step
-    part-step-start
-    part-step-end
-    step-requires
-    answer-word-requires
-    mul-answers
-    slice-write-answers
-    add-i
-    loop-less
-    loop-again
-    same-length
-    same-length-2
-    same-length-3
-    returns-4)
+    (tie.spec Inv-loop μ-loop (search needs) (search needs) (search needs) returns (search needs) (search needs) (search needs) returns-2 (search needs)
+    (search needs) returns-3 loop-holds (search needs) (search needs) (search needs) (search needs) (search needs) (search needs) read-call-requires
+    perform-requires (search needs) mul-answers (λ c. search needs) add-i (λ c. search needs) loop-again same-length-7
+    same-length-8 same-length-9 returns-4)

@@ -11,23 +11,8 @@ use Rattle.journal.proofs.opening.cpu_bytes.Tie as tie
 byte-at-requires : tie.Need-byte-at-requires
 byte-at-requires c κs = omega (arith, head-in (c .before .args .bytes .now) (c .before .pre))
 
-mul-start : tie.Need-mul-start
-mul-start c = search needs
-
-add-start : tie.Need-add-start
-add-start c = search needs
-
 byte-at-requires-2 : tie.Need-byte-at-requires-2
 byte-at-requires-2 c κs = omega (arith, head-in (c .before .before .args .bytes .now) (c .before .before .pre))
-
-add-end : tie.Need-add-end
-add-end c = search needs
-
-sub-result : tie.Need-sub-result
-sub-result c = search needs
-
-part-result-start : tie.Need-part-result-start
-part-result-start c = search needs
 
 part-result-end : tie.Need-part-result-end
 unfolding machineSize
@@ -40,13 +25,5 @@ returns c = rw (add-sub-cancel-left, c .before .before .byte-at .ensures .0, c .
 pub cpu-bytes-spec : {M : Type 1} → statement M
 cpu-bytes-spec =
     tie.close
-    (tie.spec
-    byte-at-requires
-    mul-start
-    add-start
-    byte-at-requires-2
-    add-end
-    sub-result
-    part-result-start
-    part-result-end
-    returns)
+    (tie.spec byte-at-requires (search needs) (search needs) byte-at-requires-2 (search needs) (search needs) (search needs)
+    part-result-end returns)

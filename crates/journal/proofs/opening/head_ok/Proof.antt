@@ -10,25 +10,9 @@ returns : tie.Need-returns
 unfolding headOk
 returns c = rw (lt-leb _ _ (c .if1 .taken))
 
-marked-requires : tie.Need-marked-requires
-marked-requires c κs = search needs
-
-shared-slice-read-result : tie.Need-shared-slice-read-result
-shared-slice-read-result c = search needs
-
-shared-slice-read-result-2 : tie.Need-shared-slice-read-result-2
-shared-slice-read-result-2 c = search needs
-
 returns-2 : tie.Need-returns-2
 unfolding headOk
 returns-2 c = rw (le-leb _ _ (c .before .before .before .if1 .left), c .before .before .marked .ensures)
 
 pub head-ok-spec : {M : Type 1} → statement M
-head-ok-spec =
-    tie.close
-    (tie.spec
-    returns
-    marked-requires
-    shared-slice-read-result
-    shared-slice-read-result-2
-    returns-2)
+head-ok-spec = tie.close (tie.spec returns (search needs) (search needs) (search needs) returns-2)

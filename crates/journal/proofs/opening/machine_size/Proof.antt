@@ -7,21 +7,6 @@ use borrow.Author.Needs.{needs}
 use Rattle.journal.proofs.opening.machine_size.Statement.{statement}
 use Rattle.journal.proofs.opening.machine_size.Tie as tie
 
-byte-at-requires : tie.Need-byte-at-requires
-byte-at-requires c κs = search needs
-
-byte-at-requires-2 : tie.Need-byte-at-requires-2
-byte-at-requires-2 c κs = search needs
-
-mul-result : tie.Need-mul-result
-mul-result c = search needs
-
-add-result : tie.Need-add-result
-add-result c = search needs
-
-add-result-2 : tie.Need-add-result-2
-add-result-2 c = search needs
-
 mul-result-2 : tie.Need-mul-result-2
 mul-result-2 c = omega (arith, square-most (c .before .byte-at .result) (omega arith))
 
@@ -35,12 +20,4 @@ returns c = rw (c .before .byte-at .ensures .0, c .byte-at2 .ensures .0)
 pub machine-size-spec : {M : Type 1} → statement M
 machine-size-spec =
     tie.close
-    (tie.spec
-    byte-at-requires
-    byte-at-requires-2
-    mul-result
-    add-result
-    add-result-2
-    mul-result-2
-    add-result-3
-    returns)
+    (tie.spec (search needs) (search needs) (search needs) (search needs) (search needs) mul-result-2 add-result-3 returns)

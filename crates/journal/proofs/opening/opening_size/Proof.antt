@@ -3,23 +3,17 @@
 use mathlib.Core.Path.{_≡_, sym, _∙_}
 use native.Mathlib.Omega.{arith}
 use borrow.Author.Tests.{not-true, not-false}
-use Rattle.journal.specs.Enums.{openingSize}
+use Rattle.journal.specs.Opening.{openingSize}
 use Rattle.journal.proofs.MachineRecord.{opening-between}
 use borrow.Author.Needs.{needs}
 use Rattle.journal.proofs.opening.opening_size.Statement.{statement}
 use Rattle.journal.proofs.opening.opening_size.Tie as tie
-
-counts-ok-requires : tie.Need-counts-ok-requires
-counts-ok-requires c κs = search needs
 
 returns : tie.Need-returns
 unfolding openingSize
 returns c =
     let bad = sym (c .before .counts-ok .ensures) ∙ not-true _ (c .if1 .taken) in
     (rw bad, search needs, search needs)
-
-machine-size-requires : tie.Need-machine-size-requires
-machine-size-requires c κs = search needs
 
 returns-2 : tie.Need-returns-2
 unfolding openingSize
@@ -30,4 +24,4 @@ returns-2 c =
     (e, omega (arith, opening-between bs .0), omega (arith, opening-between bs .1))
 
 pub opening-size-spec : {M : Type 1} → statement M
-opening-size-spec = tie.close (tie.spec counts-ok-requires returns machine-size-requires returns-2)
+opening-size-spec = tie.close (tie.spec (search needs) returns (search needs) returns-2)

@@ -25,32 +25,14 @@ loop-holds : tie.Need-loop-holds Inv-loop μ-loop
 unfolding from
 loop-holds c = (search needs, search needs, refl)
 
-mul-u16-at : tie.Need-mul-u16-at Inv-loop μ-loop
-mul-u16-at c = search needs
-
-add-u16-at : tie.Need-add-u16-at Inv-loop μ-loop
-add-u16-at c = search needs
-
 u16-at-requires : tie.Need-u16-at-requires Inv-loop μ-loop
 unfolding machineSize
 u16-at-requires c κs = omega arith
-
-cast-counts : tie.Need-cast-counts Inv-loop μ-loop
-cast-counts c = search needs
-
-mul-counts : tie.Need-mul-counts Inv-loop μ-loop
-mul-counts c = search needs
 
 array-write-counts : tie.Need-array-write-counts Inv-loop μ-loop
 array-write-counts c =
     let a = c .before .before .before .before .before in
     omega (arith, nodes-most (a .args .bytes .now) (a .pre .0))
-
-add-i : tie.Need-add-i Inv-loop μ-loop
-add-i c = search needs
-
-loop-less : tie.Need-loop-less Inv-loop μ-loop
-loop-less c = search needs
 
 loop-again : tie.Need-loop-again Inv-loop μ-loop
 loop-again c =
@@ -70,18 +52,5 @@ returns c =
 pub page-counts-spec : {M : Type 1} → statement M
 page-counts-spec =
     tie.close
-    (tie.spec
-    Inv-loop
-    μ-loop
-    byte-at-requires
-    loop-holds
-    mul-u16-at
-    add-u16-at
-    u16-at-requires
-    cast-counts
-    mul-counts
-    array-write-counts
-    add-i
-    loop-less
-    loop-again
-    returns)
+    (tie.spec Inv-loop μ-loop byte-at-requires loop-holds (search needs) (search needs) u16-at-requires (search needs) (search needs)
+    array-write-counts (search needs) (search needs) loop-again returns)

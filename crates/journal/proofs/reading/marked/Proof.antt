@@ -6,15 +6,9 @@ use borrow.Author.Needs.{needs}
 use Rattle.journal.proofs.reading.marked.Statement.{statement}
 use Rattle.journal.proofs.reading.marked.Tie as tie
 
-shared-slice-read-result : tie.Need-shared-slice-read-result
-shared-slice-read-result c = search needs
-
-shared-slice-read-result-2 : tie.Need-shared-slice-read-result-2
-shared-slice-read-result-2 c = search needs
-
 returns : tie.Need-returns
 unfolding marked
 returns c = refl
 
 pub marked-spec : {M : Type 1} → statement M
-marked-spec = tie.close (tie.spec shared-slice-read-result shared-slice-read-result-2 returns)
+marked-spec = tie.close (tie.spec (search needs) (search needs) returns)

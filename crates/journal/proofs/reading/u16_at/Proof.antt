@@ -8,17 +8,8 @@ use borrow.Author.Needs.{needs}
 use Rattle.journal.proofs.reading.u16_at.Statement.{statement}
 use Rattle.journal.proofs.reading.u16_at.Tie as tie
 
-shared-slice-read-low : tie.Need-shared-slice-read-low
-shared-slice-read-low c = search needs
-
 cast-low : tie.Need-cast-low
 cast-low c = omega (arith, c .shared-slice-known .given (c .before .args .at))
-
-add-high : tie.Need-add-high
-add-high c = search needs
-
-shared-slice-read-high : tie.Need-shared-slice-read-high
-shared-slice-read-high c = search needs
 
 cast-high : tie.Need-cast-high
 cast-high c = omega (arith, c .before .shared-slice-known .given (c .before .before .args .at + 1))
@@ -32,6 +23,4 @@ returns c =
     (sym (number-one at bs (omega arith))) (sym (number-one (at + 1) bs (omega arith)))
 
 pub u16-at-spec : {M : Type 1} → statement M
-u16-at-spec =
-    tie.close
-    (tie.spec shared-slice-read-low cast-low add-high shared-slice-read-high cast-high returns)
+u16-at-spec = tie.close (tie.spec (search needs) cast-low (search needs) (search needs) cast-high returns)

@@ -1,22 +1,13 @@
 -- `zero_from` shifts the bytes before k out of the number of the eight.
 -- Assumes nothing.
-use native.Mathlib.Omega.{arith}
 use Prim.Native.Nat.{ℕ, _*_, _/_, _^_}
 use mathlib.Core.Path.{ap, _∙_}
+use native.Mathlib.Omega.{arith}
+use borrow.Author.Needs.{needs}
 use lib.Dec.{eqb}
 use Rattle.journal.proofs.Unused.{shifted-zero}
-use borrow.Author.Needs.{needs}
 use Rattle.journal.proofs.record.zero_from.Statement.{statement}
 use Rattle.journal.proofs.record.zero_from.Tie as tie
-
-u64-at-requires : tie.Need-u64-at-requires
-u64-at-requires c κs = search needs
-
-mul-result : tie.Need-mul-result
-mul-result c = search needs
-
-shr-result : tie.Need-shr-result
-shr-result c = search needs
 
 returns : tie.Need-returns
 returns c =
@@ -25,4 +16,4 @@ returns c =
     ∙ shifted-zero (s .args .at) (s .args .k) (s .args .bytes .now) (λ i. omega (arith, c .before .shared-slice-known .given i)) (s .pre .0) (omega arith)
 
 pub zero-from-spec : {M : Type 1} → statement M
-zero-from-spec = tie.close (tie.spec u64-at-requires mul-result shr-result returns)
+zero-from-spec = tie.close (tie.spec (search needs) (search needs) (search needs) returns)

@@ -4,24 +4,12 @@ use mathlib.Core.Path.{_≡_, sym, ap, subst, _∙_}
 use Prim.Native.Nat.{ℕ}
 use lib.ListN.{drop}
 use borrow.Author.Needs.{needs}
-use Rattle.rules.specs.Calls.{Decision, accept}
+use Rattle.rules.specs.Decisions.{Decision, accept}
 use Rattle.nodelist.specs.Reader.{numbersRead, itemsRead}
 use Rattle.nodelist.specs.Forms.{Below}
 use Rattle.nodelist.proofs.FormLaws.{items-below, past-mark}
 use Rattle.nodelist.proofs.forms.read_except.Statement.{statement}
 use Rattle.nodelist.proofs.forms.read_except.Tie as tie
-
-sub-read-items : tie.Need-sub-read-items
-sub-read-items c = search needs
-
-part-read-items-start : tie.Need-part-read-items-start
-part-read-items-start c = search needs
-
-part-read-items-end : tie.Need-part-read-items-end
-part-read-items-end c = search needs
-
-read-items-requires : tie.Need-read-items-requires
-read-items-requires c κs = search needs
 
 -- the items past the mark
 told : (c : tie.After-read-items) → let a = c .before .before .before .args in
@@ -29,12 +17,6 @@ told : (c : tie.After-read-items) → let a = c .before .before .before .args in
 told c =
     let a = c .before .before .before .args in
     c .read-items .ensures ∙ ap (itemsRead (a .nodes)) (past-mark (a .text .now))
-
-enum-known-items : tie.Need-enum-known-items
-enum-known-items c = search needs
-
-nodes-requires : tie.Need-nodes-requires
-nodes-requires c κs = search needs
 
 others-requires : tie.Need-others-requires
 others-requires c κs =
@@ -44,9 +26,6 @@ others-requires c κs =
           (subst (Below (s .args .nodes)) (sym (told (c .before .before .before .before)) ∙ ap numbersRead (c .before .before .items .given .1))
           (items-below (s .args .nodes) (drop 1 (s .args .text .now)) (s .pre .1))),
     )
-
-enum-told : tie.Need-enum-told
-enum-told c = search needs
 
 returns : tie.Need-returns
 returns c =
@@ -60,13 +39,5 @@ pub read-except-spec : {M : Type 1} → statement M
 read-except-spec =
     tie.close
     (tie.spec
-    sub-read-items
-    part-read-items-start
-    part-read-items-end
-    read-items-requires
-    enum-known-items
-    nodes-requires
-    others-requires
-    enum-told
-    returns
+    (search needs) (search needs) (search needs) (search needs) (search needs) (search needs) others-requires (search needs) returns
     returns-2)

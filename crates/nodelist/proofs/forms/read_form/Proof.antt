@@ -14,18 +14,9 @@ returns : tie.Need-returns
 unfolding formRead formOk formMask
 returns c = rw (form-none (c .before .before .args .text .now) (c .if1 .taken))
 
-is-all-requires : tie.Need-is-all-requires
-is-all-requires c κs = search needs
-
 returns-2 : tie.Need-returns-2
 unfolding formRead formOk formMask
 returns-2 c = rw (form-all (c .before .before .before .before .args .text .now) (sym (c .before .is-all .ensures) ∙ c .if2 .taken))
-
-shared-slice-read-mark : tie.Need-shared-slice-read-mark
-shared-slice-read-mark c = search needs
-
-read-except-requires : tie.Need-read-except-requires
-read-except-requires c κs = search needs
 
 returns-3 : tie.Need-returns-3
 returns-3 c =
@@ -39,9 +30,6 @@ returns-3 c =
     (sym (form-except (a .text .now) (pos-of-ne-zero (t .before .before .if1 .left)) (sym (t .before .is-all .ensures) ∙ t .if2 .left)
     (c .before .if3 .taken))))
 
-read-ranks-requires : tie.Need-read-ranks-requires
-read-ranks-requires c κs = search needs
-
 returns-4 : tie.Need-returns-4
 returns-4 c =
     let t = c .before .before .before .before in
@@ -53,9 +41,6 @@ returns-4 c =
     ∙ ap (formRead (a .nodes) (a .allowed .0))
     (sym (form-ranks (a .text .now) (pos-of-ne-zero (t .before .before .if1 .left)) (sym (t .before .is-all .ensures) ∙ t .if2 .left)
     (c .before .if4 .taken))))
-
-read-plain-requires : tie.Need-read-plain-requires
-read-plain-requires c κs = search needs
 
 returns-5 : tie.Need-returns-5
 returns-5 c =
@@ -73,13 +58,4 @@ pub read-form-spec : {M : Type 1} → statement M
 read-form-spec =
     tie.close
     (tie.spec
-    returns
-    is-all-requires
-    returns-2
-    shared-slice-read-mark
-    read-except-requires
-    returns-3
-    read-ranks-requires
-    returns-4
-    read-plain-requires
-    returns-5)
+    returns (search needs) returns-2 (search needs) (search needs) returns-3 (search needs) returns-4 (search needs) returns-5)

@@ -3,21 +3,9 @@
 use mathlib.Core.Path.{ap}
 use Prim.Native.Nat.{ℕ}
 use borrow.Author.Needs.{needs}
-use Rattle.rules.specs.Calls.{Decision, accept}
+use Rattle.rules.specs.Decisions.{Decision, accept}
 use Rattle.nodelist.proofs.forms.read_plain.Statement.{statement}
 use Rattle.nodelist.proofs.forms.read_plain.Tie as tie
-
-read-items-requires : tie.Need-read-items-requires
-read-items-requires c κs = search needs
-
-enum-known-items : tie.Need-enum-known-items
-enum-known-items c = search needs
-
-nodes-requires : tie.Need-nodes-requires
-nodes-requires c κs = search needs
-
-enum-told : tie.Need-enum-told
-enum-told c = search needs
 
 returns : tie.Need-returns
 returns c = rw (← c .before .before .before .before .read-items .ensures, c .before .before .items .given .1) (ap {B = Decision ℕ} accept (c .nodes .ensures))
@@ -27,4 +15,4 @@ returns-2 c = rw (← c .before .before .read-items .ensures, c .enum-told .give
 
 pub read-plain-spec : {M : Type 1} → statement M
 read-plain-spec =
-    tie.close (tie.spec read-items-requires enum-known-items nodes-requires enum-told returns returns-2)
+    tie.close (tie.spec (search needs) (search needs) (search needs) (search needs) returns returns-2)

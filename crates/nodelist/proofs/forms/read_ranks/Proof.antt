@@ -5,28 +5,13 @@ use Prim.Native.Nat.{ℕ}
 use lib.ListN.{drop}
 use native.Mathlib.Omega.{arith}
 use borrow.Author.Needs.{needs}
-use Rattle.rules.specs.Calls.{Decision, accept}
+use Rattle.rules.specs.Decisions.{Decision, accept}
 use Rattle.rules.specs.Masks.{maskBits, size}
 use Rattle.rules.proofs.Masks.{rank-le}
 use Rattle.nodelist.specs.Reader.{numbersRead, itemsRead}
 use Rattle.nodelist.proofs.FormLaws.{past-mark}
 use Rattle.nodelist.proofs.forms.read_ranks.Statement.{statement}
 use Rattle.nodelist.proofs.forms.read_ranks.Tie as tie
-
-sub-read-items : tie.Need-sub-read-items
-sub-read-items c = search needs
-
-part-read-items-start : tie.Need-part-read-items-start
-part-read-items-start c = search needs
-
-part-read-items-end : tie.Need-part-read-items-end
-part-read-items-end c = search needs
-
-size-requires : tie.Need-size-requires
-size-requires c κs = search needs
-
-cast-read-items : tie.Need-cast-read-items
-cast-read-items c = search needs
 
 read-items-requires : tie.Need-read-items-requires
 read-items-requires c κs = omega (arith, c .size .ensures, rank-le (c .before .before .before .args .allowed .0) 64)
@@ -37,18 +22,6 @@ told : (c : tie.After-read-items) → let a = c .before .before .before .before 
 told c =
     let a = c .before .before .before .before .args in
     c .read-items .ensures ∙ ap₂ itemsRead (c .before .size .ensures) (past-mark (a .text .now))
-
-enum-known-items : tie.Need-enum-known-items
-enum-known-items c = search needs
-
-ranks-requires : tie.Need-ranks-requires
-ranks-requires c κs = search needs
-
-ranked-requires : tie.Need-ranked-requires
-ranked-requires c κs = search needs
-
-enum-told : tie.Need-enum-told
-enum-told c = search needs
 
 returns : tie.Need-returns
 returns c =
@@ -62,15 +35,5 @@ pub read-ranks-spec : {M : Type 1} → statement M
 read-ranks-spec =
     tie.close
     (tie.spec
-    sub-read-items
-    part-read-items-start
-    part-read-items-end
-    size-requires
-    cast-read-items
-    read-items-requires
-    enum-known-items
-    ranks-requires
-    ranked-requires
-    enum-told
-    returns
-    returns-2)
+    (search needs) (search needs) (search needs) (search needs) (search needs) read-items-requires (search needs) (search needs)
+    (search needs) (search needs) returns returns-2)

@@ -10,15 +10,10 @@ returns : tie.Need-returns
 unfolding grown
 returns c = rw (eq-eqb _ 0 (c .if1 .taken))
 
-mul-result : tie.Need-mul-result
-mul-result c = search needs
-
-add-result : tie.Need-add-result
-add-result c = search needs
-
 returns-2 : tie.Need-returns-2
 unfolding grown
 returns-2 c = rw (ne-eqb _ 0 (c .if1 .left))
 
 pub grown-spec : {M : Type 1} → statement M
-grown-spec = tie.close (tie.spec returns mul-result add-result returns-2)
+grown-spec =
+    tie.close (tie.spec returns (search needs) (search needs) returns-2)

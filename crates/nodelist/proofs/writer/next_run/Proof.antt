@@ -10,12 +10,6 @@ use Rattle.nodelist.proofs.Runs.{FirstRun, no-run-from, first-run}
 use Rattle.nodelist.proofs.writer.next_run.Statement.{statement}
 use Rattle.nodelist.proofs.writer.next_run.Tie as tie
 
-cast-above : tie.Need-cast-above
-cast-above c = search needs
-
-shr-above : tie.Need-shr-above
-shr-above c = search needs
-
 returns : tie.Need-returns
 returns c = let a = c .before .before .before .args in no-run-from (a .mask .0) (a .from .0) (c .if1 .taken)
 
@@ -61,4 +55,5 @@ returns-2 c =
 pub next-run-spec : {M : Type 1} → statement M
 next-run-spec =
     tie.close
-    (tie.spec cast-above shr-above returns cast-low add-low cast-ones shr-ones cast-ones-2 add-t9 sub-t13 returns-2)
+    (tie.spec
+    (search needs) (search needs) returns cast-low add-low cast-ones shr-ones cast-ones-2 add-t9 sub-t13 returns-2)

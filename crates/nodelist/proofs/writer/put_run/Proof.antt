@@ -9,12 +9,6 @@ use Rattle.nodelist.proofs.writer.put_run.Tie as tie
 element-write-line : tie.Need-element-write-line
 element-write-line c = omega (arith, run-length (c .args .low .0) (c .args .high .0))
 
-add-put-number : tie.Need-add-put-number
-add-put-number c = search needs
-
-cast-put-number : tie.Need-cast-put-number
-cast-put-number c = search needs
-
 put-number-requires : tie.Need-put-number-requires
 put-number-requires c κs = let a = c .before .before .args in omega (arith, run-length (a .low .0) (a .high .0))
 
@@ -35,9 +29,6 @@ add-put-number-2 c =
     let a = d .before .before .before .before .before .before .args in
     omega (arith, d .before .before .before .put-number .ensures .0, double-room (a .low .0) (a .high .0) (d .if1 .left))
 
-cast-put-number-2 : tie.Need-cast-put-number-2
-cast-put-number-2 c = search needs
-
 put-number-requires-2 : tie.Need-put-number-requires-2
 put-number-requires-2 c κs =
     let d = c .before .before in
@@ -56,13 +47,5 @@ pub put-run-spec : {M : Type 1} → statement M
 put-run-spec =
     tie.close
     (tie.spec
-    element-write-line
-    add-put-number
-    cast-put-number
-    put-number-requires
-    returns
-    element-write-line-2
-    add-put-number-2
-    cast-put-number-2
-    put-number-requires-2
-    returns-2)
+    element-write-line (search needs) (search needs) put-number-requires returns element-write-line-2 add-put-number-2 (search needs)
+    put-number-requires-2 returns-2)

@@ -24,9 +24,6 @@ loop-holds c = (search needs, lined-start (c .args .mask .0) (c .args .line .now
 next-run-requires : tie.Need-next-run-requires Inv-loop μ-loop
 next-run-requires c κs = omega arith
 
-enum-known-run : tie.Need-enum-known-run Inv-loop μ-loop
-enum-known-run c = search needs
-
 -- what is known of a run that is found
 first-run : (c : tie.After-next-run Inv-loop μ-loop) (low high : Node) → c .next-run .result ≡ Span low high
     → FirstFrom (c .before .before .before .args .mask .0) (c .before .before .loop .at) (Span low high)
@@ -57,9 +54,6 @@ loop-again c =
     let l = d .before .before in
     (omega (arith, f .2), lined-step (l .loop .inv .1) _ (f .3) (c .before .put-run .ensures .0) (c .before .put-run .ensures .1))
 
-enum-told : tie.Need-enum-told Inv-loop μ-loop
-enum-told c = search needs
-
 returns : tie.Need-returns Inv-loop μ-loop
 returns c =
     let d = c .before .before in
@@ -75,15 +69,5 @@ pub put-runs-spec : {M : Type 1} → statement M
 put-runs-spec =
     tie.close
     (tie.spec
-    Inv-loop
-    μ-loop
-    loop-holds
-    next-run-requires
-    enum-known-run
-    put-run-requires
-    add-at
-    loop-less
-    loop-again
-    enum-told
-    returns
+    Inv-loop μ-loop loop-holds next-run-requires (search needs) put-run-requires add-at loop-less loop-again (search needs) returns
     returns-2)

@@ -9,16 +9,10 @@ use Rattle.nodelist.proofs.WriteLaws.{text-length, text-part, long-enou
 use Rattle.nodelist.proofs.writer.write_text.Statement.{statement}
 use Rattle.nodelist.proofs.writer.write_text.Tie as tie
 
-put-runs-requires : tie.Need-put-runs-requires
-put-runs-requires c κs = search needs
-
 returns : tie.Need-returns
 returns c =
     let a = c .before .before .before .before .args in
     sym (text-empty (a .mask .0) (a .out .now) (sym (c .before .put-runs .ensures .0) ∙ c .if1 .taken))
-
-sub-if2 : tie.Need-sub-if2
-sub-if2 c = search needs
 
 returns-2 : tie.Need-returns-2
 returns-2 c =
@@ -26,22 +20,10 @@ returns-2 c =
     let a = p .before .before .before .args in
     sym (text-too-long (a .mask .0) (a .out .now) (omega (arith, c .if2 .taken, p .put-runs .ensures .0, text-length (a .mask .0))))
 
-sub-copy : tie.Need-sub-copy
-sub-copy c = search needs
-
-part-copy-start : tie.Need-part-copy-start
-part-copy-start c = search needs
-
 part-copy-end : tie.Need-part-copy-end
 part-copy-end c =
     let p = c .before .before .before in
     long-enough _ _ (lineOf (p .before .before .before .args .mask .0)) (p .put-runs .ensures .0) (p .put-runs .ensures .1)
-
-copy-requires : tie.Need-copy-requires
-copy-requires c κs = search needs
-
-same-length : tie.Need-same-length
-same-length c = search needs
 
 returns-3 : tie.Need-returns-3
 returns-3 c =
@@ -59,13 +41,4 @@ pub write-text-spec : {M : Type 1} → statement M
 write-text-spec =
     tie.close
     (tie.spec
-    put-runs-requires
-    returns
-    sub-if2
-    returns-2
-    sub-copy
-    part-copy-start
-    part-copy-end
-    copy-requires
-    same-length
-    returns-3)
+    (search needs) returns (search needs) returns-2 (search needs) (search needs) part-copy-end (search needs) (search needs) returns-3)

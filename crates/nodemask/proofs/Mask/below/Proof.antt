@@ -7,9 +7,6 @@ use Rattle.rules.proofs.Masks.{shifted-out, below-wide}
 use Rattle.nodemask.proofs.Mask.below.Statement.{statement}
 use Rattle.nodemask.proofs.Mask.below.Tie as tie
 
-shr-result : tie.Need-shr-result
-shr-result c = search needs
-
 returns : tie.Need-returns
 returns c = let a = c .before .before .args in shifted-out (a .self .0) (a .n)
 
@@ -17,4 +14,5 @@ returns-2 : tie.Need-returns-2
 returns-2 c = let a = c .before .args in sym (below-wide 64 (a .self .0) (a .n) (omega arith) (omega arith))
 
 pub below-spec : {M : Type 1} → statement M
-below-spec = tie.close (tie.spec shr-result returns returns-2)
+below-spec =
+    tie.close (tie.spec (search needs) returns returns-2)

@@ -11,19 +11,10 @@ use Rattle.nodemask.proofs.RankLaws.{image-ranked}
 use Rattle.nodemask.proofs.Mask.folded.Statement.{statement}
 use Rattle.nodemask.proofs.Mask.folded.Tie as tie
 
-of-requires : tie.Need-of-requires
-of-requires c κs = search needs
-
-size-requires : tie.Need-size-requires
-size-requires c κs = search needs
-
 wrapped-requires : tie.Need-wrapped-requires
 wrapped-requires c κs =
     let m = c .before .before .args .allowed .0 in
     (omega (arith, c .size .ensures, size-pos 64 m (c .before .before .pre) (omega arith)), omega (arith, c .size .ensures, rank-le m 64))
-
-ranked-requires : tie.Need-ranked-requires
-ranked-requires c κs = search needs
 
 returns : tie.Need-returns
 unfolding folded wrapped rankedIn
@@ -38,4 +29,5 @@ returns c =
     ∙ image-ranked 64 u (foldedTo 64 m) (λ b. b) m (s .pre) (omega arith) (λ b. refl)
 
 pub folded-spec : {M : Type 1} → statement M
-folded-spec = tie.close (tie.spec of-requires size-requires wrapped-requires ranked-requires returns)
+folded-spec =
+    tie.close (tie.spec (search needs) (search needs) wrapped-requires (search needs) returns)

@@ -11,12 +11,6 @@ use Rattle.rules.proofs.Masks.{one-shifted, and-one-test, bit-above}
 use Rattle.nodemask.proofs.Mask.has.Statement.{statement}
 use Rattle.nodemask.proofs.Mask.has.Tie as tie
 
-cast-result : tie.Need-cast-result
-cast-result c = search needs
-
-shl-result : tie.Need-shl-result
-shl-result c = search needs
-
 returns : tie.Need-returns
 returns c =
     let a = c .before .before .before .before .args in
@@ -28,4 +22,5 @@ returns-2 c =
     ap (λ (x : ℕ). eqb x 1) (sym (bit-above 64 (a .self .0) (a .node .0) (omega arith) (omega arith)))
 
 pub has-spec : {M : Type 1} → statement M
-has-spec = tie.close (tie.spec cast-result shl-result returns returns-2)
+has-spec =
+    tie.close (tie.spec (search needs) (search needs) returns returns-2)

@@ -14,17 +14,11 @@ use Rattle.rules.proofs.Turns.{turnOf, turn-above, turn-round, turn-none}
 use Rattle.nodemask.proofs.Mask.next.Statement.{statement}
 use Rattle.nodemask.proofs.Mask.next.Tie as tie
 
-is-empty-requires : tie.Need-is-empty-requires
-is-empty-requires c κs = search needs
-
 returns : tie.Need-returns
 returns c =
     let a = c .before .before .args in
     let e : a .self .0 ≡ 0 = eqb-true (a .self .0) 0 (sym (c .before .is-empty .ensures) ∙ c .if1 .taken) in
     sym (ap (λ (x : ℕ). turnOf 64 x (a .c)) e ∙ turn-none 64 (a .c))
-
-shr-above : tie.Need-shr-above
-shr-above c = search needs
 
 -- there is a node from c on
 found : (c : tie.Then3) → let a = c .before .before .before .before .before .args in 0 < a .self .0 / 2 ^ a .c
@@ -64,5 +58,4 @@ returns-3 c =
 
 pub next-spec : {M : Type 1} → statement M
 next-spec =
-    tie.close
-    (tie.spec is-empty-requires returns shr-above cast-t9 add-t10 returns-2 cast-t13 returns-3)
+    tie.close (tie.spec (search needs) returns (search needs) cast-t9 add-t10 returns-2 cast-t13 returns-3)

@@ -10,9 +10,6 @@ use Rattle.rules.proofs.Masks.{and-not}
 use Rattle.nodemask.proofs.Mask.others.Statement.{statement}
 use Rattle.nodemask.proofs.Mask.others.Tie as tie
 
-all-nodes-requires : tie.Need-all-nodes-requires
-all-nodes-requires c κs = search needs
-
 returns : tie.Need-returns
 returns c =
     let s = c .before .before .before in
@@ -23,4 +20,5 @@ returns c =
     ∙ and-not (64 - n) n m (s .pre .1)
 
 pub others-spec : {M : Type 1} → statement M
-others-spec = tie.close (tie.spec all-nodes-requires returns)
+others-spec =
+    tie.close (tie.spec (search needs) returns)

@@ -26,9 +26,6 @@ loop-holds c = (omega arith, ranked-start (c .args .self .0) (c .args .ranks .0)
 lowest-requires : tie.Need-lowest-requires Inv-loop μ-loop
 lowest-requires c κs = let l = c .before .before .loop in both-left (l .left .0) (l .bits) (c .if1 .taken)
 
-cast-out : tie.Need-cast-out Inv-loop μ-loop
-cast-out c = search needs
-
 shl-out : tie.Need-shl-out Inv-loop μ-loop
 shl-out c =
     let l = c .before .before .before .before .loop in
@@ -67,13 +64,4 @@ pub ranked-spec : {M : Type 1} → statement M
 ranked-spec =
     tie.close
     (tie.spec
-    Inv-loop
-    μ-loop
-    loop-holds
-    lowest-requires
-    cast-out
-    shl-out
-    rest-requires
-    loop-less
-    loop-again
-    returns)
+    Inv-loop μ-loop loop-holds lowest-requires (search needs) shl-out rest-requires loop-less loop-again returns)

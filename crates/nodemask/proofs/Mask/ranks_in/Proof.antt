@@ -21,9 +21,6 @@ abbrev μ-loop : tie.MeasureT-loop
 loop-holds : tie.Need-loop-holds Inv-loop μ-loop
 loop-holds c = (omega arith, gathered-none (c .args .self .0) (rank (c .args .set .0)))
 
-lowest-requires : tie.Need-lowest-requires Inv-loop μ-loop
-lowest-requires c κs = search needs
-
 rank-requires : tie.Need-rank-requires Inv-loop μ-loop
 rank-requires c κs =
     let m = c .before .before .before .loop .left .0 in
@@ -38,9 +35,6 @@ below-64 c =
 
 with-requires : tie.Need-with-requires Inv-loop μ-loop
 with-requires c κs = omega (arith, c .rank .ensures, below-64 (c .before))
-
-rest-requires : tie.Need-rest-requires Inv-loop μ-loop
-rest-requires c κs = search needs
 
 loop-less : tie.Need-loop-less Inv-loop μ-loop
 loop-less c =
@@ -71,13 +65,4 @@ pub ranks-in-spec : {M : Type 1} → statement M
 ranks-in-spec =
     tie.close
     (tie.spec
-    Inv-loop
-    μ-loop
-    loop-holds
-    lowest-requires
-    rank-requires
-    with-requires
-    rest-requires
-    loop-less
-    loop-again
-    returns)
+    Inv-loop μ-loop loop-holds (search needs) rank-requires with-requires (search needs) loop-less loop-again returns)

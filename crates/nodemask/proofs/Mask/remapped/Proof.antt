@@ -12,20 +12,11 @@ use Rattle.nodemask.proofs.RankLaws.{image-ranked, image-image}
 use Rattle.nodemask.proofs.Mask.remapped.Statement.{statement}
 use Rattle.nodemask.proofs.Mask.remapped.Tie as tie
 
-ranks-in-requires : tie.Need-ranks-in-requires
-ranks-in-requires c κs = search needs
-
-size-requires : tie.Need-size-requires
-size-requires c κs = search needs
-
 wrapped-requires : tie.Need-wrapped-requires
 wrapped-requires c κs =
     let s = c .before .before in
     let m = s .args .new .0 in
     (omega (arith, c .size .ensures, size-pos 64 m (s .pre) (omega arith)), omega (arith, c .size .ensures, rank-le m 64))
-
-ranked-requires : tie.Need-ranked-requires
-ranked-requires c κs = search needs
 
 returns : tie.Need-returns
 unfolding remapped wrapped ranksIn rankedIn
@@ -44,4 +35,4 @@ returns c =
 
 pub remapped-spec : {M : Type 1} → statement M
 remapped-spec =
-    tie.close (tie.spec ranks-in-requires size-requires wrapped-requires ranked-requires returns)
+    tie.close (tie.spec (search needs) (search needs) wrapped-requires (search needs) returns)

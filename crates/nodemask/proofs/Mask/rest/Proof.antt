@@ -9,9 +9,6 @@ use Rattle.nodemask.proofs.RankLaws.{lowest-off}
 use Rattle.nodemask.proofs.Mask.rest.Statement.{statement}
 use Rattle.nodemask.proofs.Mask.rest.Tie as tie
 
-sub-t2 : tie.Need-sub-t2
-sub-t2 c = search needs
-
 returns : tie.Need-returns
 returns c =
     let s = c .before .before in
@@ -19,4 +16,5 @@ returns c =
     omega (arith, lowest-off 64 m (s .pre) (omega arith), ap (λ (k : ℕ). 2 ^ k) (trailing-select 64 m (s .pre) (omega arith)))
 
 pub rest-spec : {M : Type 1} → statement M
-rest-spec = tie.close (tie.spec sub-t2 returns)
+rest-spec =
+    tie.close (tie.spec (search needs) returns)

@@ -20,27 +20,12 @@ abbrev μ-loop : tie.MeasureT-loop
 loop-holds : tie.Need-loop-holds Inv-loop μ-loop
 loop-holds c = (1, sym (one-mul (c .args .w)), c .pre .0, laid-once (c .args .w) (c .args .self .0))
 
-cast-laid : tie.Need-cast-laid Inv-loop μ-loop
-cast-laid c = search needs
-
-shr-laid : tie.Need-shr-laid Inv-loop μ-loop
-shr-laid c = search needs
-
-add-step : tie.Need-add-step Inv-loop μ-loop
-add-step c = search needs
-
-loop-less : tie.Need-loop-less Inv-loop μ-loop
-loop-less c = search needs
-
 loop-again : tie.Need-loop-again Inv-loop μ-loop
 loop-again c =
     let a = c .before .before .args in
     let l = c .before .loop in
     let i = l .inv in
     (i .0 + i .0, omega (arith, add-mul (i .0) (i .0) (a .w)), omega arith, laid-twice (a .w) (a .self .0) (i .0) (l .laid) (l .step) (i .1) (i .3))
-
-low-bits-requires : tie.Need-low-bits-requires Inv-loop μ-loop
-low-bits-requires c κs = search needs
 
 returns : tie.Need-returns Inv-loop μ-loop
 unfolding wrapped
@@ -54,13 +39,4 @@ pub wrapped-spec : {M : Type 1} → statement M
 wrapped-spec =
     tie.close
     (tie.spec
-    Inv-loop
-    μ-loop
-    loop-holds
-    cast-laid
-    shr-laid
-    add-step
-    loop-less
-    loop-again
-    low-bits-requires
-    returns)
+    Inv-loop μ-loop loop-holds (search needs) (search needs) (search needs) (search needs) loop-again (search needs) returns)

@@ -1,30 +1,35 @@
--- `answer_whole`: 65,536 bytes have at most 2,048 records, and there is room for 2,049 answers.
+-- `answer_whole`: what the part read lies within the bytes that are there, and what it wrote within the output.
 -- Assumes nothing.
 use Prim.Native.Nat.{_≤_}
 use mathlib.Core.Path.{sym}
 use native.Mathlib.Omega.{arith}
 use borrow.Author.Needs.{needs}
-use lib.ListN.{length, length-take}
+use lib.ListN.{length}
 use lib.Seq.{length-take-le}
-use Rattle.journal.proofs.Output.{written-within}
+use Rattle.journal.proofs.Within.{read-within, written-within}
 use Rattle.placer.proofs.part.answer_whole.Statement.{statement}
 use Rattle.placer.proofs.part.answer_whole.Tie as tie
 
--- the answers lie in the output
-written : (c : tie.After-run-calls) → c .run-calls .result .written ≤ length (c .run-calls .last .1 .1 .1 .1 .1 .1 .0)
-written c = written-within (c .run-calls .ensures)
+-- the start, from the part
+abbrev start : tie.After-run-part → tie.Start
+start c = let lent = c .before .before .before .before in lent .before .before .before .before .before .before
 
-whole-requires : tie.Need-whole-requires
-whole-requires c κs = search needs
+-- the part, from what the rest of the code does
+abbrev part : tie.After-keep-arg → tie.After-run-part
+part c = let told = c .before .before .before in told .before .before .before .before .before .before
 
-slice-reshare-prefix-run-calls : tie.Need-slice-reshare-prefix-run-calls
-slice-reshare-prefix-run-calls c = search needs
+-- the records that were answered lie within the bytes that are there
+read : (c : tie.After-run-part) → c .run-part .result .read ≤ start c .args .there
+read c =
+    let s = start c in
+    omega (arith, read-within _ _ _ _ (c .run-part .ensures), length-take-le (s .args .there) (s .args .input .now) (s .pre .1))
 
-slice-aggregate-run-calls : tie.Need-slice-aggregate-run-calls
-slice-aggregate-run-calls c = sym (length-take-le (c .before .before .before .whole .result) _ (omega arith))
+-- the answers lie within the output
+written : (c : tie.After-run-part) → c .run-part .result .written ≤ length (c .run-part .last .1 .1 .1 .1 .0)
+written c = written-within _ _ _ _ (c .run-part .ensures)
 
-run-calls-requires : tie.Need-run-calls-requires
-run-calls-requires c κs = (search needs, simp length-take (omega arith))
+slice-aggregate-run-part : tie.Need-slice-aggregate-run-part
+slice-aggregate-run-part c = let s = c .before .before .before .before .before .before .before .before in sym (length-take-le (s .args .there) _ (s .pre .1))
 
 slice-reshare-prefix-write-all : tie.Need-slice-reshare-prefix-write-all
 slice-reshare-prefix-write-all c = written (c .before .before .before .before .before .before)
@@ -32,71 +37,37 @@ slice-reshare-prefix-write-all c = written (c .before .before .before .before .b
 slice-aggregate-write-all : tie.Need-slice-aggregate-write-all
 slice-aggregate-write-all c =
     let r = c .before .before .before .before .before .before .before in
-    sym (length-take-le (r .run-calls .result .written) _ (written r))
-
-write-all-requires : tie.Need-write-all-requires
-write-all-requires c κs = search needs
+    sym (length-take-le (r .run-part .result .written) _ (written r))
 
 sub-keep : tie.Need-sub-keep
-sub-keep c = search needs
+sub-keep c = read (part c)
 
 keep-requires : tie.Need-keep-requires
-keep-requires c κs = search needs
+keep-requires c κs = let h = read (part c) in search needs
 
-sub-t29 : tie.Need-sub-t29
-sub-t29 c = search needs
-
-same-length : tie.Need-same-length
-same-length c = search needs
-
-same-length-2 : tie.Need-same-length-2
-same-length-2 c = search needs
-
-same-length-3 : tie.Need-same-length-3
-same-length-3 c = search needs
-
-same-length-4 : tie.Need-same-length-4
-same-length-4 c = search needs
-
-returns : tie.Need-returns
-returns c = search needs
-
-same-length-5 : tie.Need-same-length-5
-same-length-5 c = search needs
-
-same-length-6 : tie.Need-same-length-6
-same-length-6 c = search needs
-
-same-length-7 : tie.Need-same-length-7
-same-length-7 c = search needs
-
-same-length-8 : tie.Need-same-length-8
-same-length-8 c = search needs
-
-returns-2 : tie.Need-returns-2
-returns-2 c = search needs
+sub-t27 : tie.Need-sub-t27
+sub-t27 c = read (part (c .before .before .before .before .before))
 
 pub answer-whole-spec : {M : Type 1} → statement M
 answer-whole-spec =
     tie.close
     (tie.spec
-    whole-requires
-    slice-reshare-prefix-run-calls
-    slice-aggregate-run-calls
-    run-calls-requires
+    (search needs)
+    slice-aggregate-run-part
+    (λ c κs. search needs)
     slice-reshare-prefix-write-all
     slice-aggregate-write-all
-    write-all-requires
+    (search needs)
     sub-keep
     keep-requires
-    sub-t29
-    same-length
-    same-length-2
-    same-length-3
-    same-length-4
-    returns
-    same-length-5
-    same-length-6
-    same-length-7
-    same-length-8
-    returns-2)
+    sub-t27
+    (search needs)
+    (search needs)
+    (search needs)
+    (search needs)
+    (λ c. search needs)
+    (search needs)
+    (search needs)
+    (search needs)
+    (search needs)
+    (λ c. search needs))

@@ -5,21 +5,6 @@ use borrow.Author.Needs.{needs}
 use Rattle.nodelist.proofs.reader.Item.dash.Statement.{statement}
 use Rattle.nodelist.proofs.reader.Item.dash.Tie as tie
 
-enum-told : tie.Need-enum-told
-enum-told c = search needs
-
-enum-known-self : tie.Need-enum-known-self
-enum-known-self c = search needs
-
-enum-told-2 : tie.Need-enum-told-2
-enum-told-2 c = search needs
-
-enum-told-3 : tie.Need-enum-told-3
-enum-told-3 c = search needs
-
-enum-told-4 : tie.Need-enum-told-4
-enum-told-4 c = search needs
-
 returns : tie.Need-returns
 unfolding withDash
 returns c = rw (c .enum-told .given .1)
@@ -44,13 +29,4 @@ pub dash-spec : {M : Type 1} → statement M
 dash-spec =
     tie.close
     (tie.spec
-    enum-told
-    enum-known-self
-    enum-told-2
-    enum-told-3
-    enum-told-4
-    returns
-    returns-2
-    returns-3
-    returns-4
-    returns-5)
+    (search needs) (search needs) (search needs) (search needs) (search needs) returns returns-2 returns-3 returns-4 returns-5)

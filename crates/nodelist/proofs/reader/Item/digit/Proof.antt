@@ -8,42 +8,15 @@ use borrow.Author.Needs.{needs}
 use Rattle.nodelist.proofs.reader.Item.digit.Statement.{statement}
 use Rattle.nodelist.proofs.reader.Item.digit.Tie as tie
 
-enum-told : tie.Need-enum-told
-enum-told c = search needs
-
-number-requires : tie.Need-number-requires
-number-requires c κs = search needs
-
-enum-known-self : tie.Need-enum-known-self
-enum-known-self c = search needs
-
 grown-requires : tie.Need-grown-requires
 grown-requires c κs =
     let s = c .before .before .before in
     omega (arith, subst (Fits (s .args .limit)) (c .before .self .given .1) (s .pre .0))
 
-number-requires-2 : tie.Need-number-requires-2
-number-requires-2 c κs = search needs
-
-enum-known-self-2 : tie.Need-enum-known-self-2
-enum-known-self-2 c = search needs
-
-range-requires : tie.Need-range-requires
-range-requires c κs = search needs
-
-enum-known-self-3 : tie.Need-enum-known-self-3
-enum-known-self-3 c = search needs
-
 grown-requires-2 : tie.Need-grown-requires-2
 grown-requires-2 c κs =
     let s = c .before .before .before in
     omega (arith, subst (Fits (s .args .limit)) (c .before .self3 .given .1) (s .pre .0))
-
-range-requires-2 : tie.Need-range-requires-2
-range-requires-2 c κs = search needs
-
-enum-told-2 : tie.Need-enum-told-2
-enum-told-2 c = search needs
 
 returns : tie.Need-returns
 unfolding withDigit
@@ -69,19 +42,5 @@ pub digit-spec : {M : Type 1} → statement M
 digit-spec =
     tie.close
     (tie.spec
-    enum-told
-    number-requires
-    enum-known-self
-    grown-requires
-    number-requires-2
-    enum-known-self-2
-    range-requires
-    enum-known-self-3
-    grown-requires-2
-    range-requires-2
-    enum-told-2
-    returns
-    returns-2
-    returns-3
-    returns-4
-    returns-5)
+    (search needs) (search needs) (search needs) grown-requires (search needs) (search needs) (search needs) (search needs) grown-requires-2
+    (search needs) (search needs) returns returns-2 returns-3 returns-4 returns-5)

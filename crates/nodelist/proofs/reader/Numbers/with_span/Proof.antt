@@ -7,15 +7,6 @@ use borrow.Author.Needs.{needs}
 use Rattle.nodelist.proofs.reader.Numbers.with_span.Statement.{statement}
 use Rattle.nodelist.proofs.reader.Numbers.with_span.Tie as tie
 
-low-bits-requires : tie.Need-low-bits-requires
-low-bits-requires c κs = search needs
-
-add-low-bits : tie.Need-add-low-bits
-add-low-bits c = search needs
-
-low-bits-requires-2 : tie.Need-low-bits-requires-2
-low-bits-requires-2 c κs = search needs
-
 sub-t7 : tie.Need-sub-t7
 sub-t7 c =
     let a = c .before .before .args in
@@ -26,4 +17,5 @@ returns : tie.Need-returns
 returns c = rw (c .before .low-bits2 .ensures, c .before .before .low-bits .ensures)
 
 pub with-span-spec : {M : Type 1} → statement M
-with-span-spec = tie.close (tie.spec low-bits-requires add-low-bits low-bits-requires-2 sub-t7 returns)
+with-span-spec =
+    tie.close (tie.spec (search needs) (search needs) (search needs) sub-t7 returns)

@@ -11,22 +11,10 @@ use borrow.Author.Needs.{needs}
 use Rattle.nodelist.proofs.reader.Progress.close.Statement.{statement}
 use Rattle.nodelist.proofs.reader.Progress.close.Tie as tie
 
-enum-told : tie.Need-enum-told
-enum-told c = search needs
-
-enum-known-item : tie.Need-enum-known-item
-enum-known-item c = search needs
-
 with-span-requires : tie.Need-with-span-requires
 with-span-requires c κs =
     let s = c .before .before .before .before in
     omega (arith, subst (Fits 64) (c .before .item .given .1) (s .pre))
-
-enum-told-2 : tie.Need-enum-told-2
-enum-told-2 c = search needs
-
-enum-known-item-2 : tie.Need-enum-known-item-2
-enum-known-item-2 c = search needs
 
 with-span-requires-2 : tie.Need-with-span-requires-2
 with-span-requires-2 c κs =
@@ -38,9 +26,6 @@ unfolding closed
 returns c =
     rw (c .before .before .before .item2 .given .1, le-leb _ _ (c .before .if1 .taken))
     (ap (λ (x : ℕ). progress (record { 0 = x }) Empty) (c .with-span2 .ensures))
-
-enum-told-3 : tie.Need-enum-told-3
-enum-told-3 c = search needs
 
 returns-2 : tie.Need-returns-2
 unfolding closed
@@ -66,16 +51,5 @@ pub close-spec : {M : Type 1} → statement M
 close-spec =
     tie.close
     (tie.spec
-    enum-told
-    enum-known-item
-    with-span-requires
-    enum-told-2
-    enum-known-item-2
-    with-span-requires-2
-    returns
-    enum-told-3
-    returns-2
-    returns-3
-    returns-4
-    returns-5
-    returns-6)
+    (search needs) (search needs) with-span-requires (search needs) (search needs) with-span-requires-2 returns (search needs) returns-2
+    returns-3 returns-4 returns-5 returns-6)

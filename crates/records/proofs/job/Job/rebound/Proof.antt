@@ -1,14 +1,10 @@
 -- `Job::rebound` replaces the allowed mask.
 -- Assumes nothing.
 use borrow.Author.Needs.{needs}
+use Rattle.records.specs.Jobs.{jobOf}
 use Rattle.records.proofs.job.Job.rebound.Statement.{statement}
 use Rattle.records.proofs.job.Job.rebound.Tie as tie
 
-rebound-requires : tie.Need-rebound-requires
-rebound-requires c κs = search needs
-
-returns : tie.Need-returns
-returns c = c .before .rebound .ensures _
-
 pub rebound-spec : {M : Type 1} → statement M
-rebound-spec = tie.close (tie.spec rebound-requires returns)
+unfolding jobOf
+rebound-spec = tie.close (tie.spec (search needs) (λ c. c .before .rebound .ensures _))

@@ -1,0 +1,46 @@
+-- A call by value that did what the rules say did the book's step.
+-- Assumes nothing.
+use Prim.Native.Nat.{ℕ}
+use mathlib.Core.Path.{_≡_, sym, _∙_}
+use mathlib.Core.List.{List}
+use Rattle.rules.specs.Machine.{Machine, nodeCount}
+use Rattle.rules.specs.Records.{Policy, policy}
+use Rattle.rules.specs.Calls.{Answer, Tables, outcome, onRequest, onRelease, onInstall, onRebind, onClear}
+use Rattle.rules.specs.Book.{Call as LawCall, request, release, rebind, clear, decision, step}
+use Rattle.records.specs.declared.policy.Policy.{Policy as Asked}
+use Rattle.records.specs.Jobs.{Asks}
+use Rattle.book.specs.declared.Call.{Call}
+use Rattle.book.specs.declared.Call.the-variants.{Request, Release, Rebind, Install, Clear}
+use Rattle.book.specs.Says.{Says}
+
+module _ (m : Machine) (t after : Tables) (a : Answer) (call : Call) (places : List ℕ) (c : LawCall) (s : Says call places c) where
+  -- a request
+  pub did-request : {j k : ℕ} → call ≡ Request j k → outcome a after ≡ onRequest m t j k → outcome a after ≡ step m t c
+  unfolding step decision onRequest
+  did-request {j} {k} e o = let q : c ≡ request j k = rw e at s in rw q o
+
+  -- a release
+  pub did-release : {j p : ℕ} → call ≡ Release j p → outcome a after ≡ onRelease (m .pageCounts) t j p → outcome a after ≡ step m t c
+  unfolding step decision onRelease
+  did-release {j} {p} e o = let q : c ≡ release j p = rw e at s in rw q o
+
+  -- a rebind
+  pub did-rebind : {j allowed : ℕ} → call ≡ Rebind j allowed → outcome a after ≡ onRebind (nodeCount m) t j allowed → outcome a after ≡ step m t c
+  unfolding step decision onRebind
+  did-rebind {j} {allowed} e o = let q : c ≡ rebind j allowed = rw e at s in rw q o
+
+  -- a clear
+  pub did-clear : {j : ℕ} → call ≡ Clear j → outcome a after ≡ onClear (nodeCount m) t j → outcome a after ≡ step m t c
+  unfolding step decision onClear
+  did-clear {j} e o = let q : c ≡ clear j = rw e at s in rw q o
+
+  -- an install: for the policy that the value asks for
+  pub did-install : {j mode flag mask len : ℕ} (asked : Asked) → call ≡ Install j mode flag mask len
+      → asked .mode ≡ mode → asked .flag ≡ flag → asked .user .0 ≡ mask → asked .len ≡ len → asked .places ≡ places
+      → ((p : Policy) → Asks asked p → outcome a after ≡ onInstall (nodeCount m) t j p) → outcome a after ≡ step m t c
+  unfolding step decision onInstall
+  did-install {j} {mode} {flag} {mask} {len} asked e m′ f u l ps o =
+      let q = rw e at s in
+      let asks : Asks asked (policy mode flag mask (q .0)) =
+      record { mode = sym m′; flag = sym f; user = sym u; len = sym (q .2 .long) ∙ sym l; places = sym (q .2 .held) ∙ sym ps } in
+      rw (q .1) (o (policy mode flag mask (q .0)) asks)

@@ -1,0 +1,81 @@
+// The book: one call, by value, on the lent tables.
+
+ghost use mathlib.Core.Bool.{true};
+ghost use mathlib.Core.Path.{_≡_};
+ghost use Rattle.rules.specs.Answers.{answerOf};
+ghost use Rattle.rules.specs.Calls.{tablesOf, outcome, requestTablesOk};
+ghost use Rattle.rules.specs.Book.{Call as LawCall, step};
+ghost use Rattle.machine.specs.Tables.{machineOf};
+ghost use Rattle.book.specs.Says.{Says};
+use nodemask::Mask;
+use placement;
+use records;
+use records::policy::Policy;
+use rules::Answer;
+use rules::PLACES_PER_JOB;
+
+// A call. The places of an install stand beside it, sixteen of them with zeros behind the list; `len` is how many the list has.
+pub enum Call {
+    Request {
+        job: usize,
+        cpu: usize,
+    },
+    Release {
+        job: usize,
+        page: usize,
+    },
+    Rebind {
+        job: usize,
+        allowed: u64,
+    },
+    Install {
+        job: usize,
+        mode: u64,
+        flag: u64,
+        mask: u64,
+        len: usize,
+    },
+    Clear {
+        job: usize,
+    },
+}
+
+// Runs a call on tables that are in order.
+pub fn perform(
+    counts: &[u32],
+    cpus: &[u8],
+    distances: &[u8],
+    pages: &mut [u8],
+    jobs: &mut [u64],
+    call: Call,
+    places: [u8; PLACES_PER_JOB],
+) -> Answer
+    requires { ⌜ requestTablesOk (machineOf (now counts) (now cpus) (now distances)) (tablesOf (now pages) (now jobs)) ≡ true ⌝ }
+    ensures { λ r. ⌜ ((c : LawCall) → Says call places c → outcome (answerOf r) (tablesOf (now (pages .exit)) (now (jobs .exit))) ≡ step (machineOf (now (counts .entry)) (now (cpus .entry)) (now (distances .entry))) (tablesOf (now (pages .entry)) (now (jobs .entry))) c) ⌝ }
+{
+    let nodes = counts.len();
+    match call {
+        Call::Request { job, cpu } => {
+            placement::request_at(counts, cpus, distances, pages, jobs, job, cpu)
+        }
+        Call::Release { job, page } => placement::release_at(counts, pages, jobs, job, page),
+        Call::Rebind { job, allowed } => records::rebind_at(nodes, jobs, job, allowed),
+        Call::Install {
+            job,
+            mode,
+            flag,
+            mask,
+            len,
+        } => {
+            let policy = Policy {
+                mode: mode,
+                flag: flag,
+                user: Mask(mask),
+                len: len,
+                places: places,
+            };
+            records::install_at(nodes, jobs, job, policy)
+        }
+        Call::Clear { job } => records::clear_at(nodes, jobs, job),
+    }
+}

@@ -1,0 +1,48 @@
+-- What a caller of a part needs: tables that are in order to start with and stay so, and bytes that lie where they can be used.
+-- Assumes nothing.
+use Prim.Native.Nat.{ℕ, _*_, _/_, _≤_}
+use mathlib.Core.Path.{_≡_, ap}
+use mathlib.Core.List.{List}
+use native.Mathlib.Omega.{arith}
+use borrow.Author.Tests.{le-leb}
+use lib.ListN.{length, replicate, length-append, length-replicate}
+use Rattle.rules.specs.Basics.{sum}
+use Rattle.rules.specs.Machine.{Machine, pageTableOk}
+use Rattle.rules.specs.Records.{wordsPerJob, mostJobs, jobTableOk}
+use Rattle.rules.specs.Decisions.{accept}
+use Rattle.rules.specs.Calls.{Tables, tablesOf, requestTablesOk}
+use Rattle.rules.specs.Journal.{journalPages, machineIn, opening}
+use Rattle.journal.specs.Opening.{Opened}
+use Rattle.journal.specs.Parts.{answerSize, Passed, putInto, onPart}
+use Rattle.journal.proofs.MachineRecord.{good-opening}
+use Rattle.rules.proofs.InOrder.{same-lengths-ok}
+use Rattle.journal.proofs.Parts.{stands}
+
+-- a good machine record, on 16,384 free pages and 64 fresh jobs
+pub opened : (bs : List ℕ) {k : ℕ} {pages jobs : List ℕ} → opening bs ≡ accept k → pages ≡ replicate journalPages 0
+    → jobs ≡ replicate (wordsPerJob * mostJobs) 0 → Opened bs (tablesOf pages jobs)
+unfolding requestTablesOk pageTableOk jobTableOk
+opened bs v p q =
+    let g = good-opening bs v in
+    let s = sum (machineIn bs .pageCounts) in
+    record {
+      good = rw (g .size) at v;
+      tables = rw (p, q, g .in-order, length-replicate {A = ℕ} journalPages 0, le-leb s journalPages (g .few-pages));
+    }
+
+-- tables of the same lengths are in order too
+pub still-opened : {bs : List ℕ} {t u : Tables} → length (u .ledger) ≡ length (t .ledger) → length (u .records) ≡ length (t .records)
+    → Opened bs t → Opened bs u
+still-opened {bs} {t} {u} e f o = record { good = o .good; tables = same-lengths-ok (machineIn bs) t u e f (o .tables) }
+
+-- What a part did, as the code tells it.
+module _ (m : Machine) (t : Tables) (input out : List ℕ) {p : Passed} (said : p ≡ onPart m t input out) where
+  -- the records that it did lie within the input
+  pub read-within : p .read ≤ length input
+  unfolding onPart putInto
+  read-within = omega (arith, ap (λ (x : Passed). x .read) said, stands m (length out / answerSize) t input .within)
+
+  -- their answers lie within the output
+  pub written-within : p .written ≤ length (p .output)
+  unfolding onPart putInto
+  written-within = rw (said, length-append) (omega arith)

@@ -1,0 +1,14 @@
+-- `clear_unused` tests the bytes that the kind does not use.
+-- Assumes nothing.
+use borrow.Author.Needs.{needs}
+use Rattle.journal.proofs.Unused.{clear-zero}
+use Rattle.journal.proofs.record.clear_unused.Statement.{statement}
+use Rattle.journal.proofs.record.clear_unused.Tie as tie
+
+returns : tie.Need-returns
+returns c =
+    let s = c .before .before .before .before in
+    rw (c .before .before .zero-from .ensures, c .before .zero-from2 .ensures, c .places-zero .ensures) (clear-zero (s .args .bytes .now) (s .pre))
+
+pub clear-unused-spec : {M : Type 1} → statement M
+clear-unused-spec = tie.close (tie.spec (search needs) (search needs) (search needs) returns)

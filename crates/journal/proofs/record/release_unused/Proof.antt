@@ -1,0 +1,14 @@
+-- `release_unused` tests the bytes that the kind does not use.
+-- Assumes nothing.
+use borrow.Author.Needs.{needs}
+use Rattle.journal.proofs.Unused.{release-zero}
+use Rattle.journal.proofs.record.release_unused.Statement.{statement}
+use Rattle.journal.proofs.record.release_unused.Tie as tie
+
+returns : tie.Need-returns
+returns c =
+    let s = c .before .before .before .before in
+    rw (c .before .before .zero-from .ensures, c .before .zero-from2 .ensures, c .places-zero .ensures) (release-zero (s .args .bytes .now) (s .pre))
+
+pub release-unused-spec : {M : Type 1} → statement M
+release-unused-spec = tie.close (tie.spec (search needs) (search needs) (search needs) returns)

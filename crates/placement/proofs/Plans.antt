@@ -1,0 +1,178 @@
+-- Laws of a job's plan: the mode in force, and the plan mode by mode, as the code makes it.
+-- Assumes nothing.
+use Prim.Native.Nat.{ℕ, zero, suc, _+_, _^_, _≤_, _<_}
+use mathlib.Core.Path.{_≡_, refl, sym, ap, _∙_}
+use mathlib.Core.Bool.{Bool, true, false, not, _&&_, cond, false≢true, and-false}
+use mathlib.Core.List.{List, [], _∷_, map, List·Memᴰ·head, List·Memᴰ·tail}
+use mathlib.Core.Option.{none, some}
+use native.Mathlib.Nat.{mod-lt, mod-eq-of-lt, lt-of-lt-of-le, lt-of-le-of-lt}
+use native.Mathlib.Omega.{arith}
+use native.Mathlib.Decide.{ℕ-discrete}
+use borrow.Author.Tests.{eqb-true, eqb-false, eq-eqb, ne-eqb}
+use lib.Bits.{and-le-r}
+use lib.Dec.{eqb}
+use lib.ListN.{length, getD, take, drop}
+use lib.Pow.{pow-mono}
+use lib.Seq.{getD-take, drop-cons}
+use Rattle.rules.specs.Basics.{around}
+use Rattle.rules.specs.Masks.{maskBits, bit, has, isNone, below, within, both, lowest, folded}
+use Rattle.rules.specs.Records.{Record, Turn, default, preferred, bind, interleave, Flag, plain, static, relative, unknownFlag, aMask, aList}
+use Rattle.rules.specs.Records.{carries, modeOf, flagOf, lastIs, noMasks, effectiveFits, masksFit, dataFits, placesOf}
+use Rattle.rules.specs.SearchOrder.{try, nearest, nodeAt, ringTries, target, interleaved, planIn, modeInForce, plan}
+use Rattle.rules.proofs.Lists.{_∈_, both-true, first-keep, around-member}
+use Rattle.rules.proofs.Masks.{folded-pos, below-width}
+use Rattle.rules.proofs.Turns.{turn-none}
+use Rattle.rules.proofs.Target.{target-none}
+use Rattle.rules.proofs.WellFormed.{Formed, effective-within, some-allowed, carries-list}
+use Rattle.nodemask.proofs.RankLaws.{lowest-is}
+use Rattle.placement.specs.Plans.{leaves, roundTries}
+
+-- ---- nodes of the effective mask
+
+-- "effective .. within allowed": below N
+pub effective-lt : (n : ℕ) (r : Record) → n ≤ maskBits → Formed n r → r .effective < 2 ^ n
+effective-lt n r l h = lt-of-le-of-lt (rw (effective-within n r l h) at (and-le-r (r .effective) (r .allowed))) (h .allowed-below)
+
+-- the lowest node of a mask below N
+pub lowest-below : (n e : ℕ) → n ≤ maskBits → 0 < e → e < 2 ^ n → lowest maskBits e < n
+lowest-below n e few p h = below-width n e (lowest maskBits e) h (lowest-is maskBits e p (lt-of-lt-of-le h (pow-mono few)) .member)
+
+-- the target of a mask below N
+pub target-below : (n e c : ℕ) {t : ℕ} → e < 2 ^ n → target e c ≡ some t → t < n
+unfolding target
+target-below n e c {t} h q = below-width n e t h (eqb-true (bit e t) 1 (first-keep (has e) _ q .passes))
+
+-- an empty mask has no target
+pub some-target : (e c : ℕ) {t : ℕ} → target e c ≡ some t → e ≡ 0 → ⊥
+unfolding target
+some-target e c q z = let s = rw z at q in let n = turn-none maskBits c in let y : _≡_ {A = ℕ} 0 1 = cc in omega arith
+
+-- and only an empty one has none
+pub no-target : (n e c : ℕ) → n ≤ maskBits → e < 2 ^ n → c ≤ n → target e c ≡ none → e ≡ 0
+no-target n e c few l k q = go (ℕ-discrete e 0)
+  where
+    go : Dec (e ≡ 0) → e ≡ 0
+    go (yes z) = z
+    go (no d) =
+        let low = lowest-is maskBits e (omega arith) (lt-of-lt-of-le l (pow-mono few)) in
+        absurd (false≢true (sym (target-none e c (omega arith) .0 q (lowest maskBits e) (low .small)) ∙ eq-eqb _ 1 (low .member)))
+
+-- ---- the mode in force
+
+flag-static : (f : ℕ) → flagOf f ≡ static → f ≡ 1
+flag-static zero e = absurd (let z : _≡_ {A = ℕ} 0 1 = cc in omega arith)
+flag-static (suc zero) e = refl
+flag-static (suc (suc zero)) e = absurd (let z : _≡_ {A = ℕ} 0 1 = cc in omega arith)
+flag-static (suc (suc (suc f))) e = absurd (let z : _≡_ {A = ℕ} 0 1 = cc in omega arith)
+
+module _ (n limit : ℕ) (r : Record) (x : ℕ) where
+  -- "Default .. near(CPU's node)"
+  pub default-plan : modeOf (r .mode) ≡ default → plan limit r x ≡ nearest limit x (r .turn)
+  unfolding plan modeInForce planIn
+  default-plan e = rw e (same (eqb (r .flag) 1 && isNone (r .effective)))
+    where
+      same : (b : Bool) → planIn (cond b default default) limit r x ≡ nearest limit x (r .turn)
+      same true = refl
+      same false = refl
+
+  module _ (d : r .effective ≡ 0 → ⊥) where
+    -- with an effective set the record's own mode is in force
+    own-plan : plan limit r x ≡ planIn (modeOf (r .mode)) limit r x
+    unfolding plan modeInForce
+    own-plan = rw (ne-eqb (r .effective) 0 d, and-false (eqb (r .flag) 1))
+
+    -- "Preferred: near(lowest effective node)"
+    pub preferred-plan : modeOf (r .mode) ≡ preferred → isNone (r .user) ≡ false → plan limit r x ≡ nearest limit (lowest maskBits (r .effective)) (r .turn)
+    unfolding planIn
+    preferred-plan e u = own-plan ∙ rw (e, u)
+
+    -- "Bind: near(CPU's node), effective nodes only"
+    pub bind-plan : modeOf (r .mode) ≡ bind → plan limit r x ≡ nearest (both limit (r .effective)) x (r .turn)
+    unfolding planIn
+    bind-plan e = own-plan ∙ rw e
+
+    -- "Interleave: the target t .. then near(t)"
+    pub interleave-plan : modeOf (r .mode) ≡ interleave → {t : ℕ} → target (r .effective) (r .turn .cursor) ≡ some t
+        → plan limit r x ≡ nearest limit t (lastIs t)
+    unfolding planIn interleaved
+    interleave-plan e q = own-plan ∙ rw (e, q)
+
+  module _ (few : n ≤ maskBits) (h : Formed n r) (c : carries (modeOf (r .mode)) ≡ aMask) where
+    masks-fit : masksFit n r ≡ true
+    unfolding dataFits
+    masks-fit = both-true {a = masksFit n r} {b = eqb (r .len) 0} (rw c at (h .data-fits)) .0
+
+    -- "and any mode with static and an empty effective set": then near(CPU's node), as with preferred and an empty user mask
+    pub none-effective : r .user < 2 ^ maskBits → r .effective ≡ 0 → plan limit r x ≡ nearest limit x (r .turn)
+    unfolding plan modeInForce planIn masksFit noMasks effectiveFits
+    none-effective word z = go (isNone (r .user)) refl masks-fit
+      where
+        by-flag : (f : Flag) → flagOf (r .flag) ≡ f → 0 < r .user → effectiveFits n r f ≡ true → plan limit r x ≡ nearest limit x (r .turn)
+        by-flag plain e p t =
+            let q = both-true {a = below n (r .user) && not (isNone (r .effective))} {b = within (r .effective) (r .allowed)} t .0 in
+            absurd (false≢true (rw z at (both-true {a = below n (r .user)} {b = not (isNone (r .effective))} q .1)))
+        by-flag static e p t = rw (flag-static (r .flag) e, z)
+        by-flag relative e p t =
+            let q : r .effective ≡ folded maskBits (r .user) (r .allowed) = eqb-true (r .effective) (folded maskBits (r .user) (r .allowed)) t in
+            let low : r .allowed < 2 ^ maskBits = lt-of-lt-of-le (h .allowed-below) (pow-mono few) in
+            absurd (omega (arith, folded-pos maskBits (r .user) (r .allowed) (some-allowed n r h c) low p word))
+        by-flag unknownFlag e p t = absurd (false≢true t)
+
+        go : (b : Bool) → isNone (r .user) ≡ b → cond b (eqb (r .mode) 1 && noMasks r) (effectiveFits n r (flagOf (r .flag))) ≡ true
+            → plan limit r x ≡ nearest limit x (r .turn)
+        go true e t =
+            let q = both-true {a = eqb (r .mode) 1} {b = noMasks r} t in
+            let f = both-true {a = eqb (r .flag) 0 && isNone (r .user)} {b = isNone (r .effective)} (q .1) .0 in
+            let flag : r .flag ≡ 0 = eqb-true (r .flag) 0 (both-true {a = eqb (r .flag) 0} {b = isNone (r .user)} f .0) in
+            rw (flag, eqb-true (r .mode) 1 (q .0), eqb-true (r .user) 0 e)
+        go false e t = by-flag (flagOf (r .flag)) refl (omega (arith, eqb-false (r .user) 0 e)) t
+
+    -- a record with an effective set has a user mask
+    pub some-user : (r .effective ≡ 0 → ⊥) → isNone (r .user) ≡ false
+    unfolding masksFit noMasks
+    some-user d = go (isNone (r .user)) masks-fit
+      where
+        go : (b : Bool) → cond b (eqb (r .mode) 1 && noMasks r) (effectiveFits n r (flagOf (r .flag))) ≡ true → b ≡ false
+        go true t =
+            let q = both-true {a = eqb (r .mode) 1} {b = noMasks r} t .1 in
+            absurd (d (eqb-true (r .effective) 0 (both-true {a = eqb (r .flag) 0 && isNone (r .user)} {b = isNone (r .effective)} q .1)))
+        go false t = refl
+
+  -- a list mode is in force: its flag is 0
+  pub list-plan : Formed n r → carries (modeOf (r .mode)) ≡ aList → plan limit r x ≡ planIn (modeOf (r .mode)) limit r x
+  unfolding plan modeInForce
+  list-plan h c = rw (carries-list n r (rw c at (h .data-fits)) .0)
+
+-- ---- the places of a list
+
+-- "List: places in order": k of them from place c on
+places-in-order : (turn : Turn) (places : List ℕ) (len c k : ℕ) → c + k ≤ len → len ≤ length places
+    → map (try turn) (take k (drop c places)) ≡ roundTries false places turn len c k
+unfolding roundTries leaves around
+places-in-order turn places len c zero h l = refl
+places-in-order turn places len c (suc k) h l =
+    rw (drop-cons places c 0 (omega arith), mod-eq-of-lt {n = c} {m = len} (omega arith), places-in-order turn places len (suc c) k (omega arith) l)
+
+pub list-tries : (r : Record) → r .len ≤ length (r .bytes) → map (try (r .turn)) (placesOf r) ≡ roundTries false (r .bytes) (r .turn) (r .len) 0 (r .len)
+unfolding placesOf
+list-tries r l = places-in-order (r .turn) (r .bytes) (r .len) 0 (r .len) (omega arith) l
+
+map-same : {A B : Type 0} (f g : A → B) (xs : List A) → ((x : A) → x ∈ xs → f x ≡ g x) → map f xs ≡ map g xs
+map-same f g [] e = refl
+map-same f g (x ∷ xs) e = rw (e x (List·Memᴰ·head refl), map-same f g xs (λ y h. e y (List·Memᴰ·tail h)))
+
+-- the node that a place in use names
+pub place-at : (r : Record) (p : ℕ) → p < r .len → nodeAt r p ≡ getD (r .bytes) p 0
+unfolding nodeAt placesOf
+place-at r p l = getD-take (r .len) (r .bytes) p 0 l
+
+-- "Ring: places from one past the cursor, once round"
+pub ring-tries : (r : Record) (turn : Turn) → ringTries r ≡ roundTries true (r .bytes) turn (r .len) (r .turn .cursor) (r .len)
+unfolding ringTries roundTries leaves
+ring-tries r turn =
+    map-same _ _ (around (r .len) (r .turn .cursor) (r .len)) (λ p q. ap (try (lastIs p)) (place-at r p (in-use p q)))
+  where
+    in-use : (p : ℕ) → p ∈ around (r .len) (r .turn .cursor) (r .len) → p < r .len
+    in-use p q =
+        let i = around-member (r .len) (r .turn .cursor) (r .len) q in
+        rw (i .2) (mod-lt (r .turn .cursor + i .0) (omega (arith, i .1)))
