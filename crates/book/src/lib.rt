@@ -5,13 +5,14 @@ ghost use mathlib.Core.Path.{_≡_};
 ghost use Rattle.rules.specs.Answers.{answerOf};
 ghost use Rattle.rules.specs.Calls.{tablesOf, outcome, requestTablesOk};
 ghost use Rattle.rules.specs.Book.{Call as LawCall, step};
-ghost use Rattle.machine.specs.Tables.{machineOf};
+ghost use Rattle.machine.specs.Tables.{machineOf, Starts};
 ghost use Rattle.book.specs.Says.{Says};
 use nodemask::Mask;
 use placement;
 use records;
 use records::policy::Policy;
 use rules::Answer;
+use rules::MOST_NODES;
 use rules::PLACES_PER_JOB;
 
 // A call. The places of an install stand beside it, sixteen of them with zeros behind the list; `len` is how many the list has.
@@ -43,6 +44,7 @@ pub enum Call {
 // Runs a call on tables that are in order.
 pub fn perform(
     counts: &[u32],
+    starts: &[u32; MOST_NODES + 1],
     cpus: &[u8],
     distances: &[u8],
     pages: &mut [u8],
@@ -50,15 +52,17 @@ pub fn perform(
     call: Call,
     places: [u8; PLACES_PER_JOB],
 ) -> Answer
-    requires { ⌜ requestTablesOk (machineOf (now counts) (now cpus) (now distances)) (tablesOf (now pages) (now jobs)) ≡ true ⌝ }
+    requires { ⌜ (requestTablesOk (machineOf (now counts) (now cpus) (now distances)) (tablesOf (now pages) (now jobs)) ≡ true) × Starts (now counts) (now starts) ⌝ }
     ensures { λ r. ⌜ ((c : LawCall) → Says call places c → outcome (answerOf r) (tablesOf (now (pages .exit)) (now (jobs .exit))) ≡ step (machineOf (now (counts .entry)) (now (cpus .entry)) (now (distances .entry))) (tablesOf (now (pages .entry)) (now (jobs .entry))) c) ⌝ }
 {
     let nodes = counts.len();
     match call {
         Call::Request { job, cpu } => {
-            placement::request_at(counts, cpus, distances, pages, jobs, job, cpu)
+            placement::request_at(counts, starts, cpus, distances, pages, jobs, job, cpu)
         }
-        Call::Release { job, page } => placement::release_at(counts, pages, jobs, job, page),
+        Call::Release { job, page } => {
+            placement::release_at(counts, starts, pages, jobs, job, page)
+        }
         Call::Rebind { job, allowed } => records::rebind_at(nodes, jobs, job, allowed),
         Call::Install {
             job,

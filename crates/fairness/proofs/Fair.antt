@@ -12,7 +12,7 @@ use lib.ListN.{length, drop}
 use lib.Dec.{eqb}
 use Rattle.rules.specs.Basics.{count, Each}
 use Rattle.rules.specs.Machine.{Machine}
-use Rattle.rules.specs.Masks.{maskBits, bit, has, rank, size}
+use Rattle.rules.specs.Masks.{mostNodes, bit, has, rank, size}
 use Rattle.rules.specs.Records.{Record, Turn, lastIs, withTurn}
 use Rattle.rules.specs.SearchOrder.{Try, nodeAt}
 use Rattle.rules.specs.Calls.{Tables}
@@ -135,9 +135,9 @@ Aimed m j (g ∷ gs) (p ∷ ps) = (isOpen m (g .before) j p ≡ true → nodeGra
 -- the targets of an interleave job: a walk round all nodes that stops at each effective one
 record Targets (m : Machine) (j : ℕ) (P : Record) (c : Turn) (gs : List Grant) : Type 0 where
   targets : List ℕ
-  walks : Walk maskBits (bit (P .effective)) (c .cursor) targets
+  walks : Walk mostNodes (bit (P .effective)) (c .cursor) targets
   as-many : length targets ≡ length gs
-  effective : Each (λ p. (p < maskBits) × (has (P .effective) p ≡ true)) targets
+  effective : Each (λ p. (p < mostNodes) × (has (P .effective) p ≡ true)) targets
   aimed : Aimed m j gs targets
 
 -- the search of one grant of an interleave job whose record is P but for the turn c
@@ -154,18 +154,18 @@ interleave-targets m j P c q [] three h l = record { targets = []; walks = tt; a
 interleave-targets m j P c q (g ∷ gs) three h l =
     let v = l .2 in
     let r = interleave-served m j P c q g (l .1) three h (l .0) v in
-    let f = first-around (has (P .effective)) maskBits (c .cursor) maskBits (r .goal) (rw (l .0) at (r .by-turn)) in
+    let f = first-around (has (P .effective)) mostNodes (c .cursor) mostNodes (r .goal) (rw (l .0) at (r .by-turn)) in
     let rest = interleave-targets m j P (lastIs (r .goal)) q gs three h (rw (r .moves) at (l .3)) in
     record {
       targets = r .goal ∷ rest .targets;
-      walks = (f .past, f .here, λ e lt. in-false (P .effective) ((c .cursor + e) % maskBits) refl (f .failed e lt), rest .walks);
+      walks = (f .past, f .here, λ e lt. in-false (P .effective) ((c .cursor + e) % mostNodes) refl (f .failed e lt), rest .walks);
       as-many = ap suc (rest .as-many);
       effective = ((rw (f .here) (mod-lt (c .cursor + f .past) (omega arith)), f .passes), rest .effective);
       aimed = (λ o. v .in-node ∙ r .serves o, rest .aimed);
     }
 
 -- every target is effective
-all-hit : (e : ℕ) (ps : List ℕ) → Each (λ p. (p < maskBits) × (has e p ≡ true)) ps → hits (bit e) ps ≡ length ps
+all-hit : (e : ℕ) (ps : List ℕ) → Each (λ p. (p < mostNodes) × (has e p ≡ true)) ps → hits (bit e) ps ≡ length ps
 unfolding Each hits
 all-hit e [] f = refl
 all-hit e (p ∷ ps) f = omega (arith, eqb-true (bit e p) 1 (f .0 .1), all-hit e ps (f .1))
@@ -188,8 +188,8 @@ module _ (m : Machine) (j : ℕ) (P : Record) (n : ℕ) where
       go false e ih = omega arith
 
   -- and where all are, each grant's page is in its target
-  aimed-exact : (gs : List Grant) (ps : List ℕ) → Aimed m j gs ps → Each (λ p. (p < maskBits) × (has (P .effective) p ≡ true)) ps
-      → Each (λ g. (q : ℕ) → q < maskBits → has (P .effective) q ≡ true → isOpen m (g .before) j q ≡ true) gs → timesNode m n gs ≡ hits (is n) ps
+  aimed-exact : (gs : List Grant) (ps : List ℕ) → Aimed m j gs ps → Each (λ p. (p < mostNodes) × (has (P .effective) p ≡ true)) ps
+      → Each (λ g. (q : ℕ) → q < mostNodes → has (P .effective) q ≡ true → isOpen m (g .before) j q ≡ true) gs → timesNode m n gs ≡ hits (is n) ps
   unfolding Aimed Each hits count
   aimed-exact [] [] a f o = refl
   aimed-exact [] (p ∷ ps) a f o = absurd a
@@ -199,20 +199,20 @@ module _ (m : Machine) (j : ℕ) (P : Record) (n : ℕ) where
       rw s (omega (arith, aimed-exact gs ps (a .1) (f .1) (o .1)))
 
   -- a walk over the effective nodes comes to each as often
-  each-turn : n < maskBits → has (P .effective) n ≡ true → (c : Turn) (gs : List Grant) (k : ℕ) → length gs ≡ k * size maskBits (P .effective)
+  each-turn : n < mostNodes → has (P .effective) n ≡ true → (c : Turn) (gs : List Grant) (k : ℕ) → length gs ≡ k * size mostNodes (P .effective)
       → (r : Targets m j P c gs) → hits (is n) (r .targets) ≡ k
   unfolding Under
   each-turn small h c gs k long r =
-      exactly maskBits (is n) (bit (P .effective)) under (c .cursor) (r .targets) (r .walks) (all-hit (P .effective) (r .targets) (r .effective)) k
-      (r .as-many ∙ long ∙ ap (λ (x : ℕ). k * x) (sym (round-once maskBits (bit (P .effective)) ∙ upto-rank (P .effective) maskBits)))
-      ∙ ap (λ (x : ℕ). k * x) (place-once maskBits n small)
+      exactly mostNodes (is n) (bit (P .effective)) under (c .cursor) (r .targets) (r .walks) (all-hit (P .effective) (r .targets) (r .effective)) k
+      (r .as-many ∙ long ∙ ap (λ (x : ℕ). k * x) (sym (round-once mostNodes (bit (P .effective)) ∙ upto-rank (P .effective) mostNodes)))
+      ∙ ap (λ (x : ℕ). k * x) (place-once mostNodes n small)
       ∙ mul-one k
     where
       under : (i : ℕ) → bit (P .effective) i ≡ 0 → is n i ≡ 0
       under i z = is-other n i (λ e. let o : bit (P .effective) n ≡ 1 = eqb-true (bit (P .effective) n) 1 h in omega (arith, ap (bit (P .effective)) e))
 
 interleave-fair : (m : Machine) (j : ℕ) (P : Record) → P .mode ≡ 3 → (c : Turn) (gs : List Grant) → Linked m j P c gs → (k : ℕ)
-    → length gs ≡ k * size maskBits (P .effective) → FairNodes m j (P .effective) k gs
+    → length gs ≡ k * size mostNodes (P .effective) → FairNodes m j (P .effective) k gs
 interleave-fair m j P three c gs l k long = record {
   at-least = λ n small h o.
       let r = interleave-targets m j P c n gs three h l in
@@ -229,7 +229,7 @@ pub demand3 : (m : Machine) (t : Tables) (cs : List Call) → Demand3 m t cs
 demand3 m t cs j u = record {
   ring = λ five k s long. let c = in-row s (k * recordIn t j .len) in ring-fair m j (recordIn t j) five (c .0) _ (c .1) k long;
   interleave = λ three k s long.
-      let c = in-row s (k * size maskBits (recordIn t j .effective)) in
+      let c = in-row s (k * size mostNodes (recordIn t j .effective)) in
       interleave-fair m j (recordIn t j) three (c .0) _ (c .1) k long;
   ring-page = λ five. ring-pages m j (recordIn t j) (recordIn t j .turn) (grants m j t cs) five (linked m j t cs u);
 }

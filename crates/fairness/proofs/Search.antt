@@ -11,7 +11,7 @@ use borrow.Author.Tests.{eqb-true, ne-eqb}
 use lib.Dec.{eqb, ltb}
 use Rattle.rules.specs.Basics.{keep, first, around, between}
 use Rattle.rules.specs.Machine.{Machine, nodeCount}
-use Rattle.rules.specs.Masks.{maskBits, bit, has, isNone}
+use Rattle.rules.specs.Masks.{mostNodes, bit, has, isEmpty}
 use Rattle.rules.specs.Records.{Record, Turn, lastIs, interleave, ring, rowOf, dataFits, noMasks, wellFormed, placesPerJob}
 use Rattle.rules.specs.SearchOrder.{Try, try, near, tried, nodeAt, ringTries, target, interleaved, planIn, modeInForce, plan, order, hasRoom, chosen}
 use Rattle.rules.specs.Calls.{Tables, limitOf, orderOf}
@@ -82,8 +82,8 @@ unfolding dataFits rowOf noMasks
 flag-none n j w five =
     let d = rw five at (formed n j w .data-fits) in
     let a = both-true {a = noMasks j} {b = between 1 placesPerJob (j .len)} d .0 in
-    let b = both-true {a = eqb (j .flag) 0 && isNone (j .user)} {b = isNone (j .effective)} a .0 in
-    eqb-true (j .flag) 0 (both-true {a = eqb (j .flag) 0} {b = isNone (j .user)} b .0)
+    let b = both-true {a = eqb (j .flag) 0 && isEmpty (j .user)} {b = isEmpty (j .effective)} a .0 in
+    eqb-true (j .flag) 0 (both-true {a = eqb (j .flag) 0} {b = isEmpty (j .user)} b .0)
 
 in-ring : (n : ℕ) (j : Record) → wellFormed n j ≡ true → j .mode ≡ 5 → modeInForce j ≡ ring
 unfolding modeInForce
@@ -109,7 +109,7 @@ ring-grant m t j k s w five e =
 -- ---- interleave
 
 -- a mask with a node in it is not empty
-pub not-empty : (e q : ℕ) → has e q ≡ true → isNone e ≡ false
+pub not-empty : (e q : ℕ) → has e q ≡ true → isEmpty e ≡ false
 not-empty e q h =
     ne-eqb e 0 (λ z. let x : bit 0 q ≡ 1 = eqb-true (bit 0 q) 1 (rw z at h) in omega (arith, bit-above 0 0 q (zero-lt-suc 0) zero-le))
 
@@ -120,7 +120,7 @@ in-interleave j q three h = rw (not-empty (j .effective) q h, and-false (eqb (j 
 -- A grant to an interleave job: the target is the next effective node, the cursor field becomes one more, and the target serves if it is open.
 pub record InterleaveGrant (m : Machine) (t : Tables) (j : ℕ) (s : Try) : Type 0 where
   pub goal : ℕ
-  pub by-turn : first (keep (has (recordIn t j .effective)) (around maskBits (recordIn t j .turn .cursor) maskBits)) ≡ some goal
+  pub by-turn : first (keep (has (recordIn t j .effective)) (around mostNodes (recordIn t j .turn .cursor) mostNodes)) ≡ some goal
   pub moves : s .turn ≡ lastIs goal
   pub serves : isOpen m t j goal ≡ true → s .node ≡ goal
 

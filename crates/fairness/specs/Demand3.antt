@@ -9,7 +9,7 @@ use lib.ListN.{length, take, drop}
 use lib.Dec.{eqb, ltb}
 use Rattle.rules.specs.Basics.{keep, first, around, count, Each}
 use Rattle.rules.specs.Machine.{Machine, nodeCount, nodeOfPage}
-use Rattle.rules.specs.Masks.{maskBits, has, size}
+use Rattle.rules.specs.Masks.{mostNodes, has, size}
 use Rattle.rules.specs.Records.{Record, recordAt}
 use Rattle.rules.specs.SearchOrder.{nodeAt, hasRoom}
 use Rattle.rules.specs.Calls.{Answer, granted, released, done, refused, Tables, limitOf}
@@ -103,15 +103,15 @@ pub record FairPlaces (m : Machine) (j L k : ℕ) (gs : List Grant) : Type 0 whe
 
 -- and of one that starts "in interleave mode over L effective nodes", the nodes of the mask e
 pub record FairNodes (m : Machine) (j e k : ℕ) (gs : List Grant) : Type 0 where
-  pub at-least : (n : ℕ) → n < maskBits → has e n ≡ true → Each (λ g. isOpen m (g .before) j n ≡ true) gs → k ≤ timesNode m n gs
-  pub exactly : Each (λ g. (q : ℕ) → q < maskBits → has e q ≡ true → isOpen m (g .before) j q ≡ true) gs
-      → (n : ℕ) → n < maskBits → has e n ≡ true → timesNode m n gs ≡ k
+  pub at-least : (n : ℕ) → n < mostNodes → has e n ≡ true → Each (λ g. isOpen m (g .before) j n ≡ true) gs → k ≤ timesNode m n gs
+  pub exactly : Each (λ g. (q : ℕ) → q < mostNodes → has e q ≡ true → isOpen m (g .before) j q ≡ true) gs
+      → (n : ℕ) → n < mostNodes → has e n ≡ true → timesNode m n gs ≡ k
 
 -- "Take every list of these calls .. It starts from any page table and job table": the one claim, for every job
 pub record Fair (m : Machine) (t : Tables) (cs : List Call) (j : ℕ) : Type 0 where
   pub ring : recordIn t j .mode ≡ 5 → (k s : ℕ) → let L : ℕ = recordIn t j .len in
       length (row m j t cs s (k * L)) ≡ k * L → FairPlaces m j L k (row m j t cs s (k * L))
-  pub interleave : recordIn t j .mode ≡ 3 → (k s : ℕ) → let L : ℕ = size maskBits (recordIn t j .effective) in
+  pub interleave : recordIn t j .mode ≡ 3 → (k s : ℕ) → let L : ℕ = size mostNodes (recordIn t j .effective) in
       length (row m j t cs s (k * L)) ≡ k * L → FairNodes m j (recordIn t j .effective) k (row m j t cs s (k * L))
   -- "The page answered in ring mode lies in the node of the place granted"
   pub ring-page : recordIn t j .mode ≡ 5

@@ -16,7 +16,7 @@ use Rattle.rules.specs.Calls.{Tables, numbers}
 use Rattle.rules.specs.Book.{step, answers, final}
 use Rattle.rules.specs.Journal.{Entry, faulty, readRecord, machineIn, startOf, opening, runFrom, journal}
 use Rattle.rules.proofs.Lists.{same-test}
-use Rattle.journal.specs.Parts.{answerSize, runOf, isWhole, ran, answerTo, oneRecord, after, partFrom, putInto, onPart}
+use Rattle.journal.specs.Parts.{answerSize, runOf, isReady, ran, answerTo, oneRecord, after, partFrom, putInto, onPart}
 use Rattle.journal.specs.BookRun.{recordsFrom, recordsIn, past, answerLines, bookLines, ending, bookRun, meetsDamage, bookPart}
 use Rattle.journal.proofs.Records.{short-left, short-damaged, good-record, damage}
 use Rattle.journal.proofs.Answers.{answer-length, fault-length, enough, run-next, run-damaged}
@@ -120,32 +120,34 @@ more-room : (n room : ℕ) → ltb (suc n) (suc room) ≡ ltb n room
 more-room n room =
     same-test (λ h. lt-ltb n room (omega (arith, ltb-true (suc n) (suc room) h))) (λ h. lt-ltb (suc n) (suc room) (omega (arith, ltb-true n room h)))
 
-part-by-book : (m : Machine) {bs : List ℕ} {es : List Entry} → Records bs es → (room : ℕ) (t : Tables) → partFrom room m t bs ≡ bookPart room m t bs es
+part-by-book : (ended : Bool) (m : Machine) {bs : List ℕ} {es : List Entry} → Records bs es → (room : ℕ) (t : Tables)
+    → partFrom ended room m t bs ≡ bookPart ended room m t bs es
 unfolding partFrom oneRecord answerLines answers final sum
-part-by-book m {bs} (none q) zero t = refl
-part-by-book m {bs} (none q) (suc room) t = go (isWhole bs) refl
+part-by-book ended m {bs} (none q) zero t = refl
+part-by-book ended m {bs} (none q) (suc room) t = go (isReady ended bs) refl
   where
-    go : (w : Bool) → isWhole bs ≡ w → partFrom (suc room) m t bs ≡ bookPart (suc room) m t bs []
-    go false w = part-waits (suc room) m t bs w ∙ rw (lt-ltb 0 (suc room) (omega arith), w)
+    go : (w : Bool) → isReady ended bs ≡ w → partFrom ended (suc room) m t bs ≡ bookPart ended (suc room) m t bs []
+    go false w = part-waits ended (suc room) m t bs w ∙ rw (lt-ltb 0 (suc room) (omega arith), w)
     go true w = rw (w, q, lt-ltb 0 (suc room) (omega arith), damage bs q)
-part-by-book m {bs} (more {es = es} q rs) zero t = rw (le-ltb (suc (length es)) 0 (omega arith))
-part-by-book m {bs} (more {e = e} {es = es} q rs) (suc room) t =
+part-by-book ended m {bs} (more {es = es} q rs) zero t = rw (le-ltb (suc (length es)) 0 (omega arith))
+part-by-book ended m {bs} (more {e = e} {es = es} q rs) (suc room) t =
     let t′ = step m t (e .call) .tables in
-    let rest = bookPart room m t′ (drop (e .size) bs) es in
-    rw (good-record bs q .whole, q) (ap (after (done m t e)) (part-by-book m rs room t′)
+    let ready : isReady ended bs ≡ true = rw (good-record bs q .whole) in
+    let rest = bookPart ended room m t′ (drop (e .size) bs) es in
+    rw (ready, q) (ap (after (done m t e)) (part-by-book ended m rs room t′)
     ∙ rw (more-room (length es) room, sym (drop-drop (sum (map (λ e. e .size) es)) (e .size) bs))
     (ap (λ (xs : List ℕ). ran (e .size + rest .read) xs (rest .more) (rest .tables))
-    (sym (append-assoc (answerTo m t e) (bookLines m t′ (take room es)) (cond (meetsDamage room (drop (e .size) bs) es) (faulty 13) [])))))
+    (sym (append-assoc (answerTo m t e) (bookLines m t′ (take room es)) (cond (meetsDamage ended room (drop (e .size) bs) es) (faulty 13) [])))))
 
 -- "at the end the whole page table, job table .. equal the book's": what a part does is the book's part, the tables that it leaves with it
-pub left-is-book : (room : ℕ) (m : Machine) (t : Tables) (bs : List ℕ) → partFrom room m t bs ≡ bookPart room m t bs (recordsIn bs)
-left-is-book room m t bs = part-by-book m (records-are bs) room t
+pub left-is-book : (ended : Bool) (room : ℕ) (m : Machine) (t : Tables) (bs : List ℕ) → partFrom ended room m t bs ≡ bookPart ended room m t bs (recordsIn bs)
+left-is-book ended room m t bs = part-by-book ended m (records-are bs) room t
 
 -- so is every part that the contract of `run_part` allows
-pub runs-by-book : (m : Machine) (t : Tables) (input out : List ℕ)
-    → onPart m t input out ≡ putInto out (bookPart (length out / answerSize) m t input (recordsIn input))
+pub runs-by-book : (m : Machine) (t : Tables) (input : List ℕ) (ended : Bool) (out : List ℕ)
+    → onPart m t input ended out ≡ putInto out (bookPart ended (length out / answerSize) m t input (recordsIn input))
 unfolding onPart
-runs-by-book m t input out = ap (putInto out) (left-is-book (length out / answerSize) m t input)
+runs-by-book m t input ended out = ap (putInto out) (left-is-book ended (length out / answerSize) m t input)
 
 -- ---- the whole journal
 

@@ -16,7 +16,7 @@ use Rattle.rules.specs.Calls.{Answer, Tables, outcome, numbers}
 use Rattle.rules.specs.Book.{Call as LawCall, step}
 use Rattle.rules.specs.Journal.{answerBytes, faulty, readRecord}
 use Rattle.rules.proofs.Lists.{both-true}
-use Rattle.journal.specs.Parts.{answerSize, isWhole, Ran, ran, oneRecord, after, partFrom, Passed, putInto, onPart}
+use Rattle.journal.specs.Parts.{answerSize, isReady, Ran, ran, oneRecord, after, partFrom, Passed, putInto, onPart}
 use Rattle.journal.proofs.Parts.{part-waits, one-size}
 
 -- ---- parts that are lent
@@ -84,22 +84,22 @@ put-after out p q =
     )
 
 -- a record that is done, and the part that follows it unless it ends the run
-abbrev goesOn : Machine → List ℕ → Passed → Passed
-goesOn m bs q = cond (q .more) (onto q (onPart m (q .tables) (drop (q .read) bs) (drop (q .written) (q .output)))) q
+abbrev goesOn : Machine → List ℕ → Bool → Passed → Passed
+goesOn m bs ended q = cond (q .more) (onto q (onPart m (q .tables) (drop (q .read) bs) ended (drop (q .written) (q .output)))) q
 
--- so does a part begin with a whole record, in an output with room for its answer
-first-done : (m : Machine) (t : Tables) (bs out : List ℕ) → isWhole bs ≡ true → answerSize ≤ length out
-    → onPart m t bs out ≡ goesOn m bs (putInto out (oneRecord m t bs))
+-- so does a part begin with a record that can be done, in an output with room for its answer
+first-done : (m : Machine) (t : Tables) (bs : List ℕ) (ended : Bool) (out : List ℕ) → isReady ended bs ≡ true → answerSize ≤ length out
+    → onPart m t bs ended out ≡ goesOn m bs ended (putInto out (oneRecord m t bs))
 unfolding onPart putInto partFrom
-first-done m t bs out w l =
+first-done m t bs ended out w l =
     let given = oneRecord m t bs .answers in
     let less = length (drop (length given) out) / answerSize in
     let e : length out / answerSize ≡ suc less = omega (arith, length-drop (length given) out, one-size m t bs .2) in
-    ap (λ (k : ℕ). putInto out (partFrom k m t bs)) e ∙ rw w (go (oneRecord m t bs .more))
+    ap (λ (k : ℕ). putInto out (partFrom ended k m t bs)) e ∙ rw w (go (oneRecord m t bs .more))
   where
     go : (more : Bool) → let p = oneRecord m t bs in let q = putInto out p in let less = length (drop (length (p .answers)) out) / answerSize in
-        putInto out (cond more (after p (partFrom less m (p .tables) (drop (p .read) bs))) p)
-        ≡ cond more (onto q (onPart m (q .tables) (drop (q .read) bs) (drop (q .written) (q .output)))) q
+        putInto out (cond more (after p (partFrom ended less m (p .tables) (drop (p .read) bs))) p)
+        ≡ cond more (onto q (onPart m (q .tables) (drop (q .read) bs) ended (drop (q .written) (q .output)))) q
     go false = refl
     go true =
         let p = oneRecord m t bs in
@@ -108,38 +108,39 @@ first-done m t bs out w l =
 -- ---- the loop
 
 -- What is done and what is still to come are the part of the whole.
-pub record Held (m : Machine) (t₀ : Tables) (input out₀ : List ℕ) (t : Tables) (out : List ℕ) (written at : ℕ) : Type 0 where
+pub record Held (m : Machine) (t₀ : Tables) (input : List ℕ) (ended : Bool) (out₀ : List ℕ) (t : Tables) (out : List ℕ) (written at : ℕ) : Type 0 where
   pub within : at ≤ length input
   pub fits : written ≤ length out
-  pub part : onto (state at written t out) (onPart m t (drop at input) (drop written out)) ≡ onPart m t₀ input out₀
+  pub part : onto (state at written t out) (onPart m t (drop at input) ended (drop written out)) ≡ onPart m t₀ input ended out₀
 
 -- nothing is done yet
-pub begun : (m : Machine) (t : Tables) (input out : List ℕ) → Held m t input out t out 0 0
-begun m t input out = record { within = omega arith; fits = omega arith; part = simp zero-add }
+pub begun : (m : Machine) (t : Tables) (input : List ℕ) (ended : Bool) (out : List ℕ) → Held m t input ended out t out 0 0
+begun m t input ended out = record { within = omega arith; fits = omega arith; part = simp zero-add }
 
-module _ {m : Machine} {t₀ t : Tables} {input out₀ out : List ℕ} {written at : ℕ} (held : Held m t₀ input out₀ t out written at) where
-  -- no room is left, or the next record is not yet whole
-  pub finished : {w : Bool} → w ≡ isWhole (take (length input - at) (drop at input)) → (w && leb answerSize (length out - written)) ≡ false
-      → state at written t out ≡ onPart m t₀ input out₀
+module _ {m : Machine} {t₀ t : Tables} {input out₀ out : List ℕ} {ended : Bool} {written at : ℕ} (held : Held m t₀ input ended out₀ t out written at) where
+  -- no room is left, or the next record cannot be done yet
+  pub finished : {w : Bool} → w ≡ isReady ended (take (length input - at) (drop at input)) → (w && leb answerSize (length out - written)) ≡ false
+      → state at written t out ≡ onPart m t₀ input ended out₀
   unfolding onPart putInto partFrom
   finished {w} e h =
-      let stays = go w (sym (ap isWhole (rest-lent input at)) ∙ sym e) h in
+      let stays = go w (sym (ap (isReady ended) (rest-lent input at)) ∙ sym e) h in
       sym (rw (stays, take-append-drop written out, add-zero, add-zero)) ∙ held .part
     where
-      go : (w : Bool) → isWhole (drop at input) ≡ w → (w && leb answerSize (length out - written)) ≡ false
-          → partFrom (length (drop written out) / answerSize) m t (drop at input) ≡ ran 0 [] true t
-      go false w h = part-waits (length (drop written out) / answerSize) m t (drop at input) w
+      go : (w : Bool) → isReady ended (drop at input) ≡ w → (w && leb answerSize (length out - written)) ≡ false
+          → partFrom ended (length (drop written out) / answerSize) m t (drop at input) ≡ ran 0 [] true t
+      go false w h = part-waits ended (length (drop written out) / answerSize) m t (drop at input) w
       go true w h =
           let none : length (drop written out) / answerSize ≡ 0 = omega (arith, length-drop written out, leb-false answerSize (length out - written) h) in
           rw none
 
-  -- The next record is whole, and there is room for its answer.
-  module _ {w : Bool} (whole : w ≡ isWhole (take (length input - at) (drop at input))) (tested : (w && leb answerSize (length out - written)) ≡ true) where
+  -- The next record can be done, and there is room for its answer.
+  module _ {w : Bool} (told : w ≡ isReady ended (take (length input - at) (drop at input)))
+      (tested : (w && leb answerSize (length out - written)) ≡ true) where
     pub lent-room : answerSize ≤ length (take (length out - written) (drop written out))
     lent-room = room-lent out written (omega (arith, leb-true answerSize (length out - written) (both-true {a = w} tested .1), held .fits))
 
-    is-whole : isWhole (drop at input) ≡ true
-    is-whole = sym (ap isWhole (rest-lent input at)) ∙ sym whole ∙ both-true {a = w} tested .0
+    is-ready : isReady ended (drop at input) ≡ true
+    is-ready = sym (ap (isReady ended) (rest-lent input at)) ∙ sym told ∙ both-true {a = w} tested .0
 
     has-room : answerSize ≤ length (drop written out)
     has-room = rw (rest-lent out written) at lent-room
@@ -161,14 +162,14 @@ module _ {m : Machine} {t₀ t : Tables} {input out₀ out : List ℕ} {written 
             λ h. omega (arith, read, one .1 (sym more ∙ h)),
           )
 
-      joined : onto (state at written t out) (goesOn m (drop at input) a) ≡ onPart m t₀ input out₀
+      joined : onto (state at written t out) (goesOn m (drop at input) ended a) ≡ onPart m t₀ input ended out₀
       joined =
-          let first = first-done m t (drop at input) (drop written out) is-whole has-room in
-          ap (onto (state at written t out)) (ap (goesOn m (drop at input)) did ∙ sym first) ∙ held .part
+          let first = first-done m t (drop at input) ended (drop written out) is-ready has-room in
+          ap (onto (state at written t out)) (ap (goesOn m (drop at input) ended) did ∙ sym first) ∙ held .part
 
       -- one record more is done
       pub advanced : a .more ≡ true
-          → Held m t₀ input out₀ (a .tables) (take written out ++ (a .output ++ drop (length out - written) (drop written out)))
+          → Held m t₀ input ended out₀ (a .tables) (take written out ++ (a .output ++ drop (length out - written) (drop written out)))
           (written + a .written) (at + a .read)
       unfolding putInto
       advanced h =
@@ -191,7 +192,7 @@ module _ {m : Machine} {t₀ t : Tables} {input out₀ out : List ℕ} {written 
             more = false;
             tables = a .tables;
             output = take written out ++ (a .output ++ drop (length out - written) (drop written out));
-          } ≡ onPart m t₀ input out₀
+          } ≡ onPart m t₀ input ended out₀
       stopped h = rw (rest-back out (a .output) written) (rw h at joined)
 
 -- ---- one record

@@ -1,11 +1,13 @@
 -- What a caller of a part needs: tables that are in order to start with and stay so, and bytes that lie where they can be used.
 -- Assumes nothing.
-use Prim.Native.Nat.{ℕ, _*_, _/_, _≤_}
-use mathlib.Core.Path.{_≡_, ap}
+use Prim.Native.Nat.{ℕ, _*_, _/_, _≤_, _<_}
+use mathlib.Core.Path.{_≡_, sym, ap, _∙_}
+use mathlib.Core.Bool.{Bool, true, false}
+use mathlib.Core.Logic.{⊎-elim}
 use mathlib.Core.List.{List}
 use native.Mathlib.Omega.{arith}
 use borrow.Author.Tests.{le-leb}
-use lib.ListN.{length, replicate, length-append, length-replicate}
+use lib.ListN.{length, drop, replicate, length-append, length-replicate}
 use Rattle.rules.specs.Basics.{sum}
 use Rattle.rules.specs.Machine.{Machine, pageTableOk}
 use Rattle.rules.specs.Records.{wordsPerJob, mostJobs, jobTableOk}
@@ -13,7 +15,7 @@ use Rattle.rules.specs.Decisions.{accept}
 use Rattle.rules.specs.Calls.{Tables, tablesOf, requestTablesOk}
 use Rattle.rules.specs.Journal.{journalPages, machineIn, opening}
 use Rattle.journal.specs.Opening.{Opened}
-use Rattle.journal.specs.Parts.{answerSize, Passed, putInto, onPart}
+use Rattle.journal.specs.Parts.{answerSize, isReady, partFrom, Passed, putInto, onPart}
 use Rattle.journal.proofs.MachineRecord.{good-opening}
 use Rattle.rules.proofs.InOrder.{same-lengths-ok}
 use Rattle.journal.proofs.Parts.{stands}
@@ -36,13 +38,27 @@ pub still-opened : {bs : List ℕ} {t u : Tables} → length (u .ledger) ≡ len
 still-opened {bs} {t} {u} e f o = record { good = o .good; tables = same-lengths-ok (machineIn bs) t u e f (o .tables) }
 
 -- What a part did, as the code tells it.
-module _ (m : Machine) (t : Tables) (input out : List ℕ) {p : Passed} (said : p ≡ onPart m t input out) where
+module _ (m : Machine) (t : Tables) (input : List ℕ) (ended : Bool) (out : List ℕ) {p : Passed} (said : p ≡ onPart m t input ended out) where
   -- the records that it did lie within the input
   pub read-within : p .read ≤ length input
   unfolding onPart putInto
-  read-within = omega (arith, ap (λ (x : Passed). x .read) said, stands m (length out / answerSize) t input .within)
+  read-within = omega (arith, ap (λ (x : Passed). x .read) said, stands ended m (length out / answerSize) t input .within)
 
   -- their answers lie within the output
   pub written-within : p .written ≤ length (p .output)
   unfolding onPart putInto
   written-within = rw (said, length-append) (omega arith)
+
+  -- in an output with room for an answer to each 32 bytes it leaves no record that can be done
+  pub none-left : p .more ≡ true → length input < 32 * (length out / answerSize) → isReady ended (drop (p .read) input) ≡ false
+  unfolding onPart putInto
+  none-left h room =
+      let part = stands ended m (length out / answerSize) t input in
+      let more = sym (ap (λ (x : Passed). x .more) said) ∙ h in
+      let read = ap (λ (x : Passed). x .read) said in
+      rw read
+      (⊎-elim
+      (λ (full : length (partFrom ended (length out / answerSize) m t input .answers) ≡ answerSize * (length out / answerSize)).
+      absurd (omega (arith, part .few more, part .within)))
+      (λ w. w)
+      (part .stops more))

@@ -10,7 +10,7 @@ use Rattle.rules.specs.Decisions.{decided}
 use Rattle.rules.specs.Calls.{Answer, Tables, numbers}
 use Rattle.rules.specs.Book.{Call, answers, final}
 use Rattle.rules.specs.Journal.{Entry, answerBytes, faulty, readRecord}
-use Rattle.journal.specs.Parts.{isWhole, Ran, ran}
+use Rattle.journal.specs.Parts.{isReady, Ran, ran}
 
 -- the records up to the end of input or the first damaged one; the first argument bounds their number, as in `runFrom`
 unfoldable pub recordsFrom : ℕ → List ℕ → List Entry
@@ -49,13 +49,13 @@ ending (b ∷ bs) = faulty 13
 abbrev pub bookRun : Machine → Tables → List ℕ → List ℕ
 bookRun m t bs = bookLines m t (recordsIn bs) ++ ending (past bs (recordsIn bs))
 
--- with room for one answer more than there are good records, a whole record past them is damaged
-abbrev pub meetsDamage : ℕ → List ℕ → List Entry → Bool
-meetsDamage room bs es = ltb (length es) room && isWhole (past bs es)
+-- there is room for one answer more than there are good records, and one stands past them: it is damaged
+abbrev pub meetsDamage : Bool → ℕ → List ℕ → List Entry → Bool
+meetsDamage ended room bs es = ltb (length es) room && isReady ended (past bs es)
 
 -- the book's part: as many of the records as there is room for answers, and damage that it meets
-abbrev pub bookPart : ℕ → Machine → Tables → List ℕ → List Entry → Ran
-bookPart room m t bs es =
+abbrev pub bookPart : Bool → ℕ → Machine → Tables → List ℕ → List Entry → Ran
+bookPart ended room m t bs es =
     let ds = take room es in
-    let damage = meetsDamage room bs es in
+    let damage = meetsDamage ended room bs es in
     ran (sum (map (λ e. e .size) ds)) (bookLines m t ds ++ cond damage (faulty 13) []) (not damage) (final m t (calls ds))

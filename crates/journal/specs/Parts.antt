@@ -1,10 +1,11 @@
 -- A run in parts: what the whole records at the start of some bytes come to, as far as there is room for answers (document 01, "The
 -- journal program").
 use Prim.Native.Nat.{ℕ, zero, suc, _+_, _/_}
-use mathlib.Core.Bool.{Bool, true, false, cond}
+use mathlib.Core.Bool.{Bool, true, false, not, _&&_, _||_, cond}
 use mathlib.Core.List.{List, [], _++_}
 use lib.ListN.{length, drop}
 use lib.Dec.{leb}
+use Rattle.rules.specs.Basics.{isNil}
 use Rattle.rules.specs.Machine.{Machine}
 use Rattle.rules.specs.Decisions.{decided}
 use Rattle.rules.specs.Calls.{Tables, numbers}
@@ -37,7 +38,7 @@ ran read answers more tables = record { read = read; answers = answers; more = m
 abbrev pub answerTo : Machine → Tables → Entry → List ℕ
 answerTo m t e = answerBytes (e .kind) (numbers (step m t (e .call) .answer))
 
--- one record: its call is performed; "A bad mark, kind, unused byte .. answers kind FF, refusal 13, .. and ends"
+-- one record: its call is performed; "A bad mark, kind, unused byte or short record .. answers kind FF, refusal 13, .. and ends"
 unfoldable pub oneRecord : Machine → Tables → List ℕ → Ran
 oneRecord m t bs =
     decided
@@ -49,14 +50,18 @@ oneRecord m t bs =
 abbrev pub after : Ran → Ran → Ran
 after p q = ran (p .read + q .read) (p .answers ++ q .answers) (q .more) (q .tables)
 
--- the whole records that the bytes start with, one after the other; a record that is not yet whole is left. The first argument is how many
--- answers there is room for.
-unfoldable pub partFrom : ℕ → Machine → Tables → List ℕ → Ran
-partFrom zero m t bs = ran 0 [] true t
-partFrom (suc room) m t bs =
+-- a record can be done: it is whole, or the input has ended and it is a short one
+abbrev pub isReady : Bool → List ℕ → Bool
+isReady ended bs = isWhole bs || (ended && not (isNil bs))
+
+-- the records that the bytes start with, one after the other, up to one that cannot be done yet. The second argument is how many answers
+-- there is room for.
+unfoldable pub partFrom : Bool → ℕ → Machine → Tables → List ℕ → Ran
+partFrom ended zero m t bs = ran 0 [] true t
+partFrom ended (suc room) m t bs =
     let one = oneRecord m t bs in
-    let more = after one (partFrom room m (one .tables) (drop (one .read) bs)) in
-    cond (isWhole bs) (cond (one .more) more one) (ran 0 [] true t)
+    let more = after one (partFrom ended room m (one .tables) (drop (one .read) bs)) in
+    cond (isReady ended bs) (cond (one .more) more one) (ran 0 [] true t)
 
 -- What a part does to an output too: how many bytes it wrote, and the output afterwards.
 pub record Passed : Type 0 where
@@ -77,5 +82,5 @@ putInto out p = record {
 }
 
 -- a part of a run, with as many answers as the output has room for
-unfoldable pub onPart : Machine → Tables → List ℕ → List ℕ → Passed
-onPart m t input out = putInto out (partFrom (length out / answerSize) m t input)
+unfoldable pub onPart : Machine → Tables → List ℕ → Bool → List ℕ → Passed
+onPart m t input ended out = putInto out (partFrom ended (length out / answerSize) m t input)

@@ -4,7 +4,6 @@ ghost use mathlib.Core.Path.{_≡_};
 ghost use mathlib.Core.List.{_++_};
 ghost use Prim.Native.Nat.{_*_, _≤_};
 ghost use lib.ListN.{length, drop, replicate};
-ghost use Rattle.rules.specs.Answers.{decisionOf};
 ghost use Rattle.rules.specs.Decisions.{accept};
 ghost use Rattle.rules.specs.Records.{wordsPerJob, mostJobs};
 ghost use Rattle.rules.specs.Journal.{journalPages, opening, journal, writeJournal};
@@ -44,14 +43,15 @@ fn run_all(input: &[u8], size: usize, output: &mut [u8]) -> usize
     let total = opening::total_pages(input);
     let mut pages = free_pages();
     let mut jobs = fresh_jobs();
-    let rest = &input[size..];
-    let part = run::run_part(input, &mut pages[..total], &mut jobs, rest, output);
-    let written = part.written;
-    if part.more & (part.read < rest.len()) {
-        let short = answer::fault(Refusal::DamagedJournal);
-        return written + bytes::copy(&short, &mut output[written..]);
-    }
-    written
+    let part = run::run_part(
+        input,
+        &mut pages[..total],
+        &mut jobs,
+        &input[size..],
+        true,
+        output,
+    );
+    part.written
 }
 
 // A whole journal: its answers, put at the start of the output.

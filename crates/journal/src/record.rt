@@ -1,11 +1,11 @@
 // A record: whether it is there to its end, and the call in it.
 
 ghost use mathlib.Core.Path.{_≡_};
-ghost use mathlib.Core.Bool.{cond};
+ghost use mathlib.Core.Bool.{_&&_, cond};
 ghost use Prim.Native.Nat.{_+_, _-_, _≤_, _<_};
 ghost use lib.ListN.{length};
 ghost use Rattle.rules.specs.Records.{placesPerJob};
-ghost use Rattle.rules.specs.Journal.{request′, release′, rebind′, install′, clear′, byteAt, number, part, kindOf, sizeOf, unusedBytesZero, readRecord};
+ghost use Rattle.rules.specs.Journal.{byteAt, number, part, kindOf, sizeOf, readRecord};
 ghost use Rattle.journal.specs.Reads.{Reads, zeroed};
 ghost use Rattle.journal.specs.Parts.{isWhole};
 use super::reading::byte_at;
@@ -22,7 +22,7 @@ pub enum Reading {
 }
 
 // No record is shorter: "Then 32-byte records".
-const SHORTEST: usize = 32;
+pub const SHORTEST: usize = 32;
 
 // The size of a record, by the number of its kind.
 fn size_of(kind: u8) -> usize
@@ -63,44 +63,12 @@ fn places_zero(bytes: &[u8], len: usize) -> bool
     true
 }
 
-// "Request uses job and CPU": the other bytes are zero, tested eight at a time, as are the next four.
-fn request_unused(bytes: &[u8]) -> bool
-    requires { ⌜ 32 ≤ length (now bytes) ⌝ }
-    ensures { λ r. ⌜ r ≡ unusedBytesZero request′ (now (bytes .entry)) ⌝ }
+// Of the first eight bytes those from `first` on are zero, of the next eight those from `second` on, and so are all places.
+fn rest_zero(bytes: &[u8], first: usize, second: usize) -> bool
+    requires { ⌜ (32 ≤ length (now bytes)) × (first < 8) × (second < 8) ⌝ }
+    ensures { λ r. ⌜ r ≡ (zeroed first (8 - first) (now (bytes .entry)) && zeroed (8 + second) (8 - second) (now (bytes .entry)) && zeroed 16 16 (now (bytes .entry))) ⌝ }
 {
-    zero_from(bytes, 0, 5) & zero_from(bytes, 8, 0) & places_zero(bytes, 0)
-}
-
-// "release job and page"
-fn release_unused(bytes: &[u8]) -> bool
-    requires { ⌜ 32 ≤ length (now bytes) ⌝ }
-    ensures { λ r. ⌜ r ≡ unusedBytesZero release′ (now (bytes .entry)) ⌝ }
-{
-    zero_from(bytes, 0, 4) & zero_from(bytes, 8, 4) & places_zero(bytes, 0)
-}
-
-// "rebind job and mask"
-fn rebind_unused(bytes: &[u8]) -> bool
-    requires { ⌜ 32 ≤ length (now bytes) ⌝ }
-    ensures { λ r. ⌜ r ≡ unusedBytesZero rebind′ (now (bytes .entry)) ⌝ }
-{
-    zero_from(bytes, 0, 4) & places_zero(bytes, 0)
-}
-
-// "install all but CPU, its places only up to the list length"
-fn install_unused(bytes: &[u8]) -> bool
-    requires { ⌜ 32 ≤ length (now bytes) ⌝ }
-    ensures { λ r. ⌜ r ≡ unusedBytesZero install′ (now (bytes .entry)) ⌝ }
-{
-    (bytes[4] == 0) & places_zero(bytes, byte_at(bytes, 7))
-}
-
-// "clear job"
-fn clear_unused(bytes: &[u8]) -> bool
-    requires { ⌜ 32 ≤ length (now bytes) ⌝ }
-    ensures { λ r. ⌜ r ≡ unusedBytesZero clear′ (now (bytes .entry)) ⌝ }
-{
-    zero_from(bytes, 0, 4) & zero_from(bytes, 8, 0) & places_zero(bytes, 0)
+    zero_from(bytes, 0, first) & zero_from(bytes, 8, second) & places_zero(bytes, 0)
 }
 
 // The install in a record.
@@ -112,12 +80,13 @@ fn install_in(bytes: &[u8]) -> Call
     let mode = byte_at(bytes, 5) as u64;
     let flag = byte_at(bytes, 6) as u64;
     let len = byte_at(bytes, 7);
+    let mask = u64_at(bytes, 8);
     Call::Install {
-        job: job,
-        mode: mode,
-        flag: flag,
-        mask: u64_at(bytes, 8),
-        len: len,
+        job,
+        mode,
+        flag,
+        mask,
+        len,
     }
 }
 
@@ -126,11 +95,7 @@ fn read_as(kind: u8, size: usize, good: bool, call: Call) -> Reading
     ensures { λ r. ⌜ r ≡ cond good (Reading.Entry kind size call) Reading.Damaged ⌝ }
 {
     if good {
-        return Reading::Entry {
-            kind: kind,
-            size: size,
-            call: call,
-        };
+        return Reading::Entry { kind, size, call };
     }
     Reading::Damaged
 }
@@ -154,39 +119,24 @@ pub fn read_record(bytes: &[u8]) -> Reading
     match kind {
         1 => {
             let cpu = byte_at(bytes, 4);
-            read_as(
-                kind,
-                size,
-                request_unused(bytes),
-                Call::Request { job: job, cpu: cpu },
-            )
+            let unused = rest_zero(bytes, 5, 0);
+            read_as(kind, size, unused, Call::Request { job, cpu })
         }
         2 => {
             let page = u32_at(bytes, 8) as usize;
-            read_as(
-                kind,
-                size,
-                release_unused(bytes),
-                Call::Release {
-                    job: job,
-                    page: page,
-                },
-            )
+            let unused = rest_zero(bytes, 4, 4);
+            read_as(kind, size, unused, Call::Release { job, page })
         }
         3 => {
             let allowed = u64_at(bytes, 8);
-            read_as(
-                kind,
-                size,
-                rebind_unused(bytes),
-                Call::Rebind {
-                    job: job,
-                    allowed: allowed,
-                },
-            )
+            let unused = zero_from(bytes, 0, 4) & places_zero(bytes, 0);
+            read_as(kind, size, unused, Call::Rebind { job, allowed })
         }
-        4 => read_as(kind, size, install_unused(bytes), install_in(bytes)),
-        5 => read_as(kind, size, clear_unused(bytes), Call::Clear { job: job }),
+        4 => {
+            let unused = (bytes[4] == 0) & places_zero(bytes, byte_at(bytes, 7));
+            read_as(kind, size, unused, install_in(bytes))
+        }
+        5 => read_as(kind, size, rest_zero(bytes, 4, 0), Call::Clear { job }),
         _ => Reading::Damaged,
     }
 }

@@ -7,9 +7,9 @@ ghost use lib.ListN.{length};
 ghost use Rattle.rules.specs.Machine.{Machine};
 ghost use Rattle.rules.specs.Calls.{Tables, tablesOf, requestTablesOk};
 ghost use Rattle.rules.specs.Journal.{machineIn};
-ghost use Rattle.machine.specs.Tables.{machineOf};
+ghost use Rattle.machine.specs.Tables.{machineOf, Starts};
 ghost use Rattle.journal.specs.Opening.{Opened};
-ghost use Rattle.journal.specs.Parts.{answerSize, runOf, oneRecord, putInto, onPart};
+ghost use Rattle.journal.specs.Parts.{answerSize, runOf, isReady, oneRecord, putInto, onPart};
 ghost use Rattle.journal.specs.Passes.{passed};
 use super::answer::ANSWER_SIZE;
 use super::answer::fault;
@@ -23,6 +23,8 @@ use super::record::places_in;
 use super::record::read_record;
 use super::record::whole;
 use book;
+use machine;
+use rules::MOST_NODES;
 use rules::Refusal;
 
 // What a part of a run comes to: the bytes of the records that it did and those of their answers, and whether the run goes on.
@@ -35,6 +37,7 @@ pub struct Part {
 // The record that the input starts with: "A bad mark, kind, unused byte or short record .. ends" the run.
 fn run_record(
     counts: &[u32],
+    starts: &[u32; MOST_NODES + 1],
     cpus: &[u8],
     distances: &[u8],
     pages: &mut [u8],
@@ -42,14 +45,14 @@ fn run_record(
     input: &[u8],
     output: &mut [u8],
 ) -> Part
-    requires { ⌜ (requestTablesOk (machineOf (now counts) (now cpus) (now distances)) (tablesOf (now pages) (now jobs)) ≡ true) × (answerSize ≤ length (now output)) ⌝ }
+    requires { ⌜ (requestTablesOk (machineOf (now counts) (now cpus) (now distances)) (tablesOf (now pages) (now jobs)) ≡ true) × Starts (now counts) (now starts) × (answerSize ≤ length (now output)) ⌝ }
     ensures { λ r. ⌜ passed r (tablesOf (now (pages .exit)) (now (jobs .exit))) (now (output .exit)) ≡ putInto (now (output .entry)) (oneRecord (machineOf (now (counts .entry)) (now (cpus .entry)) (now (distances .entry))) (tablesOf (now (pages .entry)) (now (jobs .entry))) (now (input .entry))) ⌝ }
 {
     let read = read_record(input);
     match read {
         Reading::Entry { kind, size, call } => {
             let places = places_in(input);
-            let answer = book::perform(counts, cpus, distances, pages, jobs, call, places);
+            let answer = book::perform(counts, starts, cpus, distances, pages, jobs, call, places);
             let bytes = line(kind, answer);
             Part {
                 read: size,
@@ -68,24 +71,34 @@ fn run_record(
     }
 }
 
-// The whole records at the start of the input, as far as the output has room for their answers.
+// Can the record that the input starts with be done? It is whole, or the input has ended and it is a short one.
+fn ready(input: &[u8], ended: bool) -> bool
+    ensures { λ r. ⌜ r ≡ isReady ended (now (input .entry)) ⌝ }
+{
+    whole(input) | (ended & (input.len() != 0))
+}
+
+// The records at the start of the input, as far as the output has room for their answers.
 fn run_records(
     counts: &[u32],
+    starts: &[u32; MOST_NODES + 1],
     cpus: &[u8],
     distances: &[u8],
     pages: &mut [u8],
     jobs: &mut [u64],
     input: &[u8],
+    ended: bool,
     output: &mut [u8],
 ) -> Part
-    requires { ⌜ requestTablesOk (machineOf (now counts) (now cpus) (now distances)) (tablesOf (now pages) (now jobs)) ≡ true ⌝ }
-    ensures { λ r. ⌜ passed r (tablesOf (now (pages .exit)) (now (jobs .exit))) (now (output .exit)) ≡ onPart (machineOf (now (counts .entry)) (now (cpus .entry)) (now (distances .entry))) (tablesOf (now (pages .entry)) (now (jobs .entry))) (now (input .entry)) (now (output .entry)) ⌝ }
+    requires { ⌜ (requestTablesOk (machineOf (now counts) (now cpus) (now distances)) (tablesOf (now pages) (now jobs)) ≡ true) × Starts (now counts) (now starts) ⌝ }
+    ensures { λ r. ⌜ passed r (tablesOf (now (pages .exit)) (now (jobs .exit))) (now (output .exit)) ≡ onPart (machineOf (now (counts .entry)) (now (cpus .entry)) (now (distances .entry))) (tablesOf (now (pages .entry)) (now (jobs .entry))) (now (input .entry)) ended (now (output .entry)) ⌝ }
 {
     let mut at = 0;
     let mut written = 0;
-    while whole(&input[at..]) & (ANSWER_SIZE <= output.len() - written) {
+    while ready(&input[at..], ended) & (ANSWER_SIZE <= output.len() - written) {
         let one = run_record(
             counts,
+            starts,
             cpus,
             distances,
             pages,
@@ -110,24 +123,36 @@ fn run_records(
     }
 }
 
-// A part of a run: the machine is in the machine record. A record that is not yet whole is left, for the bytes that follow; at the end of
-// input it is a short record.
+// A part of a run: the machine is in the machine record. A record that is not yet whole is left for the bytes that follow, unless the input
+// has ended: then it is a short record.
 pub fn run_part(
     opening: &[u8],
     pages: &mut [u8],
     jobs: &mut [u64],
     input: &[u8],
+    ended: bool,
     output: &mut [u8],
 ) -> Part
     requires { ⌜ Opened (now opening) (tablesOf (now pages) (now jobs)) ⌝ }
-    ensures { λ r. ⌜ passed r (tablesOf (now (pages .exit)) (now (jobs .exit))) (now (output .exit)) ≡ onPart (machineIn (now (opening .entry))) (tablesOf (now (pages .entry)) (now (jobs .entry))) (now (input .entry)) (now (output .entry)) ⌝ }
+    ensures { λ r. ⌜ passed r (tablesOf (now (pages .exit)) (now (jobs .exit))) (now (output .exit)) ≡ onPart (machineIn (now (opening .entry))) (tablesOf (now (pages .entry)) (now (jobs .entry))) (now (input .entry)) ended (now (output .entry)) ⌝ }
 {
     let n = byte_at(opening, 3);
     let all = page_counts(opening);
     let counts = &all[..n];
     let cpus = cpu_bytes(opening);
     let distances = distance_bytes(opening);
-    run_records(counts, cpus, distances, pages, jobs, input, output)
+    let starts = machine::starts_of(counts);
+    run_records(
+        counts,
+        &starts,
+        cpus,
+        distances,
+        pages,
+        jobs,
+        input,
+        ended,
+        output,
+    )
 }
 
 // The bytes that the answers to all records take: their form alone decides it.

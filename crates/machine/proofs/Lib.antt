@@ -1,3 +1,4 @@
 pub mod Tables
 pub mod Nodes
 pub mod Listing
+pub mod FirstNode

@@ -15,8 +15,8 @@ use lib.ListN.{length, getD, drop}
 use lib.Pow.{ones-lt, pow-mono, pow-pos}
 use lib.Bits.{or-lt}
 use borrow.Author.Tests.{eqb-true, eqb-false, ne-eqb, ltb-true, ltb-false, leb-true, lt-leb}
-use Rattle.rules.specs.Basics.{all, isEmpty, between}
-use Rattle.rules.specs.Masks.{maskBits, has, allNodes, maskOf}
+use Rattle.rules.specs.Basics.{all, isNil, between}
+use Rattle.rules.specs.Masks.{mostNodes, has, allNodes, maskOf}
 use Rattle.rules.specs.Text.{comma, dash, split, valueFrom, value, isNumber, isItem, itemHas, isItems, names}
 use Rattle.rules.proofs.Lists.{all-append, true-between}
 use Rattle.rules.proofs.Masks.{none-in, bit-above, bit-others, bit-below, bit-below-out, has-or, maskOf-is, maskOf-same}
@@ -129,7 +129,7 @@ still-broken : (limit : ℕ) (p : List ℕ) (x : ℕ) → NoItem limit p → NoI
 still-broken limit p x n q = ap (λ (t : List ℕ). isItem limit (split dash t)) (append-snoc p x q) ∙ n (x ∷ q)
 
 reads-dash : {limit : ℕ} {item : Item} {p : List ℕ} → Reads limit item p → Reads limit (withDash item) (p ++ dash ∷ [])
-unfolding withDash isNumber isEmpty all
+unfolding withDash isNumber isNil all
 reads-dash {limit} nothing = broken (λ q. ap (isItem limit) (split-at dash [] q refl) ∙ item-first limit [] (split dash q) refl)
 reads-dash (number n) = dashed n
 reads-dash {limit} (dashed {a = a} n) = broken (broken-third limit a [] (number-free n) refl)
@@ -192,18 +192,18 @@ span-has low high k l = go (decLt high k) (decLt k low)
 
 -- where a reader stands after the bytes p of an item: the item was good and its nodes are in, or it was not
 data Closes (limit : ℕ) (m : Numbers) (p : List ℕ) (r : Progress) : Type 0 where
-  well : (n : Numbers) → isItem limit (split dash p) ≡ true → r ≡ progress n Empty → n .0 < 2 ^ maskBits
+  well : (n : Numbers) → isItem limit (split dash p) ≡ true → r ≡ progress n Empty → n .0 < 2 ^ mostNodes
       → ((k : ℕ) → has (n .0) k ≡ (has (m .0) k || itemHas k (split dash p))) → Closes limit m p r
   ill : isItem limit (split dash p) ≡ false → r ≡ progress m Broken → Closes limit m p r
 
-closes-span : (limit : ℕ) (m : Numbers) (p : List ℕ) (low high : ℕ) → isItem limit (split dash p) ≡ true → low ≤ high → high < maskBits
-    → m .0 < 2 ^ maskBits → ((k : ℕ) → itemHas k (split dash p) ≡ between low high k) → Closes limit m p (progress (withSpan m low high) Empty)
+closes-span : (limit : ℕ) (m : Numbers) (p : List ℕ) (low high : ℕ) → isItem limit (split dash p) ≡ true → low ≤ high → high < mostNodes
+    → m .0 < 2 ^ mostNodes → ((k : ℕ) → itemHas k (split dash p) ≡ between low high k) → Closes limit m p (progress (withSpan m low high) Empty)
 closes-span limit m p low high e l s h f =
-    well (withSpan m low high) e refl (or-lt maskBits (m .0) (span low high) h (lt-of-lt-of-le (span-lt low high) (pow-mono {j = maskBits} (omega arith))))
+    well (withSpan m low high) e refl (or-lt mostNodes (m .0) (span low high) h (lt-of-lt-of-le (span-lt low high) (pow-mono {j = mostNodes} (omega arith))))
     (λ k. has-or (m .0) (span low high) k ∙ ap (λ (b : Bool). has (m .0) k || b) (span-has low high k l ∙ sym (f k)))
 
-closes : {limit : ℕ} {item : Item} {p : List ℕ} (m : Numbers) → limit ≤ maskBits → m .0 < 2 ^ maskBits → Reads limit item p → Closes limit m p (closed m item)
-unfolding closed split isItem itemHas isNumber isEmpty
+closes : {limit : ℕ} {item : Item} {p : List ℕ} (m : Numbers) → limit ≤ mostNodes → m .0 < 2 ^ mostNodes → Reads limit item p → Closes limit m p (closed m item)
+unfolding closed split isItem itemHas isNumber isNil
 closes m l h nothing = ill refl refl
 closes {limit} m l h (number {a = a} n) =
     closes-span limit m a (value a) (value a) (rw (split-number n) (is-number limit a n)) (le-refl (value a)) (omega (arith, n .small)) h
@@ -223,7 +223,7 @@ closes {limit} m l h (broken {p = p} n) = ill (ap (λ (t : List ℕ). isItem lim
 
 -- what the items of a text name, with what is named already
 abbrev known : ℕ → Numbers → List ℕ → Option ℕ
-known limit m text = cond (isItems limit text) (some (maskOf maskBits (λ k. has (m .0) k || names text k))) none
+known limit m text = cond (isItems limit text) (some (maskOf mostNodes (λ k. has (m .0) k || names text k))) none
 
 -- a broken item stays broken
 stepped-broken : (limit : ℕ) (m : Numbers) (x : ℕ) → stepped limit (progress m Broken) x ≡ progress m Broken
@@ -245,7 +245,7 @@ broken-stays limit m (x ∷ xs) = ap (λ (r : Progress). ended (readOn limit r x
 known-last : {limit : ℕ} {m : Numbers} {p : List ℕ} {r : Progress} → free comma p ≡ true → Closes limit m p r → answer (r .named) (r .item) ≡ known limit m p
 known-last {limit} {m} {p} f (well n e q h g) =
     rw (q, items-one limit p f, e)
-    (ap some (maskOf-is maskBits (n .0) (λ k. has (m .0) k || names p k) h (λ k l. g k ∙ ap (λ (b : Bool). has (m .0) k || b) (sym (names-one p k f)))))
+    (ap some (maskOf-is mostNodes (n .0) (λ k. has (m .0) k || names p k) h (λ k l. g k ∙ ap (λ (b : Bool). has (m .0) k || b) (sym (names-one p k f)))))
 known-last {limit} {m} {p} f (ill e q) = rw (q, items-one limit p f, e)
 
 -- the item ends at a comma
@@ -254,11 +254,11 @@ known-more : (limit : ℕ) (m n : Numbers) (p q : List ℕ) → free comma p ≡
 known-more limit m n p q f e g =
     rw (items-more limit p q f, e)
     (ap (λ (x : ℕ). cond (isItems limit q) (some x) none)
-    (maskOf-same maskBits (λ k. has (n .0) k || names q k) (λ k. has (m .0) k || names (p ++ comma ∷ q) k)
+    (maskOf-same mostNodes (λ k. has (n .0) k || names q k) (λ k. has (m .0) k || names (p ++ comma ∷ q) k)
     (λ k l. rw (g k, names-more p q k f) (or-assoc (has (m .0) k) (itemHas k (split dash p)) (names q k)))))
 
 -- a text is read as document 01 says, from wherever a reader stands in it
-reads-rest : (limit : ℕ) → limit ≤ maskBits → (rest : List ℕ) {item : Item} {p : List ℕ} (m : Numbers) → m .0 < 2 ^ maskBits → free comma p ≡ true
+reads-rest : (limit : ℕ) → limit ≤ mostNodes → (rest : List ℕ) {item : Item} {p : List ℕ} (m : Numbers) → m .0 < 2 ^ mostNodes → free comma p ≡ true
     → Reads limit item p → ended (readOn limit (progress m item) rest) ≡ known limit m (p ++ rest)
 unfolding readOn stepped ended all
 reads-rest limit l [] {item} {p} m h f r = rw (append-nil p) (known-last f (closes m l h r))
@@ -268,7 +268,7 @@ reads-rest limit l (x ∷ xs) {item} {p} m h f r =
     (λ e. reads-rest limit l xs m h (all-append _ p (x ∷ []) f (rw e)) (reads-byte x r))
   where
     go : (b : Bool) → eqb x comma ≡ b → Closes limit m p (closed m item)
-        → ((n : Numbers) → n .0 < 2 ^ maskBits → ended (readOn limit (progress n Empty) xs) ≡ known limit n xs)
+        → ((n : Numbers) → n .0 < 2 ^ mostNodes → ended (readOn limit (progress n Empty) xs) ≡ known limit n xs)
         → (eqb x comma ≡ false → ended (readOn limit (progress m (withByte limit item x)) xs) ≡ known limit m (p ++ x ∷ [] ++ xs))
         → ended (readOn limit (cond b (closed m item) (progress m (withByte limit item x))) xs) ≡ known limit m (p ++ x ∷ xs)
     go true e (well n i q g k) next more =
@@ -277,12 +277,12 @@ reads-rest limit l (x ∷ xs) {item} {p} m h f r =
     go false e c next more = more e ∙ ap (known limit m) (append-snoc p x xs)
 
 -- "one or more items split by single commas": the reader reads them all
-pub reads-items : (limit : ℕ) (text : List ℕ) → limit ≤ maskBits → ended (readOn limit (progress (record { 0 = 0 }) Empty) text) ≡ itemsRead limit text
+pub reads-items : (limit : ℕ) (text : List ℕ) → limit ≤ mostNodes → ended (readOn limit (progress (record { 0 = 0 }) Empty) text) ≡ itemsRead limit text
 unfolding itemsRead all
 reads-items limit text l =
-    reads-rest limit l text (record { 0 = 0 }) (pow-pos maskBits) refl nothing
+    reads-rest limit l text (record { 0 = 0 }) (pow-pos mostNodes) refl nothing
     ∙ ap (λ (x : ℕ). cond (isItems limit text) (some x) none)
-    (maskOf-same maskBits (λ k. has 0 k || names text k) (names text) (λ k h. rw (none-in k)))
+    (maskOf-same mostNodes (λ k. has 0 k || names text k) (names text) (λ k h. rw (none-in k)))
 
 -- ---- the numbers that a reader holds stay below the limit
 

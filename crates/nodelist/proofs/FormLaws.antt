@@ -14,7 +14,7 @@ use borrow.Author.Tests.{eq-eqb, ne-eqb, le-leb, lt-leb}
 use Rattle.rules.specs.Basics.{same}
 use Rattle.rules.specs.Machine.{nodesOk}
 use Rattle.rules.specs.Decisions.{refuse, accept, unless}
-use Rattle.rules.specs.Masks.{maskBits, below, has, allNodes, rank, size, maskOf}
+use Rattle.rules.specs.Masks.{mostNodes, below, has, allNodes, rank, size, maskOf}
 use Rattle.rules.specs.Text.{bang, plus, allWord, longestText, isItems, names, noText, allText, items, except, ranks, formBy, formOf, formOk}
 use Rattle.rules.specs.Text.{formMask}
 use Rattle.rules.specs.Text.{readText}
@@ -84,56 +84,56 @@ form-items (x ∷ xs) l e b p = rw (e, ne-eqb x bang b, ne-eqb x plus p)
 -- ---- what a form gives
 
 -- where all are items, their mask needs no more bits than the limit
-named-narrow : (n : ℕ) (text : List ℕ) → n ≤ maskBits → isItems n text ≡ true → maskOf maskBits (names text) ≡ maskOf n (names text)
+named-narrow : (n : ℕ) (text : List ℕ) → n ≤ mostNodes → isItems n text ≡ true → maskOf mostNodes (names text) ≡ maskOf n (names text)
 named-narrow n text l e = maskOf-narrow (names text) l (λ k h. fails (λ t. lt-irrefl n (omega (arith, names-below n text k e t))))
 
 -- numbers read below n make a mask of n bits
-pub items-below : (n : ℕ) (text : List ℕ) → n ≤ maskBits → Below n (itemsRead n text)
+pub items-below : (n : ℕ) (text : List ℕ) → n ≤ mostNodes → Below n (itemsRead n text)
 unfolding itemsRead
 items-below n text l = go (isItems n text) refl
   where
-    go : (b : Bool) → isItems n text ≡ b → Below n (cond b (some (maskOf maskBits (names text))) none)
+    go : (b : Bool) → isItems n text ≡ b → Below n (cond b (some (maskOf mostNodes (names text))) none)
     go true e = subst (λ (x : ℕ). x < 2 ^ n) (sym (named-narrow n text l e)) (maskOf-lt n (names text))
     go false e = tt
 
 -- items
-pub read-plain : (n allowed : ℕ) (text : List ℕ) → n ≤ maskBits → itemsRead n text ≡ formRead n allowed (items text)
+pub read-plain : (n allowed : ℕ) (text : List ℕ) → n ≤ mostNodes → itemsRead n text ≡ formRead n allowed (items text)
 unfolding itemsRead formRead formOk formMask
 read-plain n allowed text l = go (isItems n text) refl
   where
-    go : (b : Bool) → isItems n text ≡ b → cond b (some (maskOf maskBits (names text))) none ≡ cond b (some (maskOf n (names text))) none
+    go : (b : Bool) → isItems n text ≡ b → cond b (some (maskOf mostNodes (names text))) none ≡ cond b (some (maskOf n (names text))) none
     go true e = ap some (named-narrow n text l e)
     go false e = refl
 
 -- "`!` takes all nodes below N not named"
-pub read-except : (n allowed : ℕ) (text : List ℕ) → n ≤ maskBits → exceptFor n (itemsRead n text) ≡ formRead n allowed (except text)
+pub read-except : (n allowed : ℕ) (text : List ℕ) → n ≤ mostNodes → exceptFor n (itemsRead n text) ≡ formRead n allowed (except text)
 unfolding itemsRead formRead formOk formMask
 read-except n allowed text l = go (isItems n text) refl
   where
     go : (b : Bool) → isItems n text ≡ b
-        → exceptFor n (cond b (some (maskOf maskBits (names text))) none) ≡ cond b (some (maskOf n (λ k. not (names text k)))) none
+        → exceptFor n (cond b (some (maskOf mostNodes (names text))) none) ≡ cond b (some (maskOf n (λ k. not (names text k)))) none
     go true e = ap some (ap (λ (x : ℕ). allNodes n - x) (named-narrow n text l e) ∙ maskOf-not n (names text))
     go false e = refl
 
 -- "after `+` they are ranks in the allowed set, below its size"
-pub read-ranks : (n allowed : ℕ) (text : List ℕ) → n ≤ maskBits → allowed < 2 ^ n
-    → rankedFor allowed (itemsRead (size maskBits allowed) text) ≡ formRead n allowed (ranks text)
+pub read-ranks : (n allowed : ℕ) (text : List ℕ) → n ≤ mostNodes → allowed < 2 ^ n
+    → rankedFor allowed (itemsRead (size mostNodes allowed) text) ≡ formRead n allowed (ranks text)
 unfolding itemsRead formRead formOk formMask rankedIn
-read-ranks n allowed text l small = go (isItems (size maskBits allowed) text)
+read-ranks n allowed text l small = go (isItems (size mostNodes allowed) text)
   where
-    member : (k : ℕ) → k < maskBits → (has allowed k && has (maskOf maskBits (names text)) (rank allowed k)) ≡ (has allowed k && names text (rank allowed k))
-    member k h = ap (λ (t : Bool). has allowed k && t) (has-maskOf maskBits (names text) (rank allowed k) (omega (arith, rank-le allowed k)))
+    member : (k : ℕ) → k < mostNodes → (has allowed k && has (maskOf mostNodes (names text)) (rank allowed k)) ≡ (has allowed k && names text (rank allowed k))
+    member k h = ap (λ (t : Bool). has allowed k && t) (has-maskOf mostNodes (names text) (rank allowed k) (omega (arith, rank-le allowed k)))
 
     -- no node from N on is allowed
     past : (k : ℕ) → n ≤ k → (has allowed k && names text (rank allowed k)) ≡ false
     past k h = ap (λ (t : Bool). t && names text (rank allowed k)) (not-in allowed k (bit-above n allowed k small h))
 
     go : (b : Bool)
-        → rankedFor allowed (cond b (some (maskOf maskBits (names text))) none)
+        → rankedFor allowed (cond b (some (maskOf mostNodes (names text))) none)
         ≡ cond b (some (maskOf n (λ k. has allowed k && names text (rank allowed k)))) none
     go true =
         ap some
-        (maskOf-same maskBits (λ k. has allowed k && has (maskOf maskBits (names text)) (rank allowed k))
+        (maskOf-same mostNodes (λ k. has allowed k && has (maskOf mostNodes (names text)) (rank allowed k))
         (λ k. has allowed k && names text (rank allowed k)) member
         ∙ maskOf-narrow (λ k. has allowed k && names text (rank allowed k)) l past)
     go false = refl

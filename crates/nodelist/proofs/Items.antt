@@ -9,7 +9,7 @@ use native.Mathlib.Omega.{arith}
 use lib.ListN.{length, getD, length-append, List·getD-append}
 use lib.Dec.{eqb, leb, lit<}
 use borrow.Author.Tests.{eqb-true, eq-eqb, ne-eqb, ltb-true, lt-ltb, not-true}
-use Rattle.rules.specs.Basics.{all, any, isEmpty, between}
+use Rattle.rules.specs.Basics.{all, any, isNil, between}
 use Rattle.rules.specs.Text.{comma, dash, split, onto, valueFrom, value, isNumber, isItem, itemHas, itemsOf, isItems, names}
 use Rattle.rules.proofs.Lists.{both-true, both-hold, same-test, fails, between-true, true-between, any-true, all-true, true-all, all-append}
 
@@ -72,7 +72,7 @@ pub record Number (limit : ℕ) (ds : List ℕ) : Type 0 where
 
 -- a text that passes the test is a number
 pub number-is : (limit : ℕ) (ds : List ℕ) → isNumber limit ds ≡ true → Number limit ds
-unfolding isNumber isEmpty
+unfolding isNumber isNil
 number-is limit [] h = absurd (false≢true h)
 number-is limit (d ∷ ds) h =
     let a = both-true {a = digitsOnly (d ∷ ds) && noLeadingZero (d ∷ ds)} h in
@@ -81,7 +81,7 @@ number-is limit (d ∷ ds) h =
 
 -- a number passes the test
 pub is-number : (limit : ℕ) (ds : List ℕ) → Number limit ds → isNumber limit ds ≡ true
-unfolding isNumber isEmpty
+unfolding isNumber isNil
 is-number limit [] n = absurd (omega (arith, n .some))
 is-number limit (d ∷ ds) n = both-hold (both-hold (n .digits) (n .plain)) (lt-ltb (value (d ∷ ds)) limit (n .small))
 

@@ -12,7 +12,7 @@ use lib.Seq.{sets, sets-eq, length-sets, length-take-le, take-at}
 use lib.Dec.{eqb, ltb}
 use borrow.Author.Tests.{eqb-true, eq-eqb, ne-eqb}
 use Rattle.rules.specs.Basics.{keep, each, from}
-use Rattle.rules.specs.Masks.{maskBits, has}
+use Rattle.rules.specs.Masks.{mostNodes, has}
 use Rattle.rules.specs.Text.{comma, dash, Run, joined, runs, decimal, runText}
 use Rattle.nodelist.specs.Writer.{lineBytes, runOf, runsFrom, lineRun, lineOf}
 
@@ -67,7 +67,7 @@ runs-length p a (suc k) = go (p a) (runs-length p (suc a) k)
 -- all runs with their commas take at most three bytes for each node
 pub line-short : (m : ℕ) → length (lineOf m) ≤ lineBytes
 unfolding lineOf runsFrom
-line-short m = runs-length (has m) 0 maskBits
+line-short m = runs-length (has m) 0 mostNodes
 
 -- ---- the line
 

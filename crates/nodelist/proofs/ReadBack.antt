@@ -12,7 +12,7 @@ use lib.Dec.{eqb, leb, ltb, lit<}
 use borrow.Author.Tests.{eqb-true, eq-eqb, ne-eqb, ltb-true, ltb-false, leb-true, le-leb}
 use Rattle.rules.specs.Basics.{all, any, keep, from, between, same}
 use Rattle.rules.specs.Machine.{nodesOk}
-use Rattle.rules.specs.Masks.{maskBits, bit, has, below, maskOf}
+use Rattle.rules.specs.Masks.{mostNodes, bit, has, below, maskOf}
 use Rattle.rules.specs.Decisions.{accept}
 use Rattle.rules.specs.Text.{comma, dash, split, valueFrom, value, isItem, itemHas, isItems, names, formBy, formOf, formOk, formMask, items, readText}
 use Rattle.rules.specs.Text.{longestText, Run, joined, runs, decimal, runText, commas, textOf}
@@ -74,7 +74,7 @@ record Readable (limit : ℕ) (r : Run) (t : List ℕ) : Type 0 where
   nodes : (k : ℕ) → itemHas k (split dash t) ≡ between (r .low) (r .high) k
   digit : starts t ≡ true
 
-readable : (limit : ℕ) (r : Run) → r .low ≤ r .high → r .high < limit → limit ≤ maskBits → Readable limit r (runText r)
+readable : (limit : ℕ) (r : Run) → r .low ≤ r .high → r .high < limit → limit ≤ mostNodes → Readable limit r (runText r)
 unfolding runText isItem itemHas all
 readable limit r o h w = go (eqb (r .low) (r .high)) refl
   where
@@ -158,7 +158,7 @@ runs-good limit (n ∷ ns) f =
 -- ---- the text of the runs
 
 -- it is one of items that name the nodes of the runs, and starts with a digit
-commas-read : (limit : ℕ) → limit ≤ maskBits → (r : Run) (rs : List Run) → Good limit (r ∷ rs) → let t = commas (map runText (r ∷ rs)) in
+commas-read : (limit : ℕ) → limit ≤ mostNodes → (r : Run) (rs : List Run) → Good limit (r ∷ rs) → let t = commas (map runText (r ∷ rs)) in
     (isItems limit t ≡ true) × ((k : ℕ) → names t k ≡ any (inRun k) (r ∷ rs)) × (starts t ≡ true)
 unfolding commas any
 commas-read limit w r [] g =
@@ -202,15 +202,15 @@ kept-any p w k l = go (p k) refl
 
 module _ (n allowed m : ℕ) (o : nodesOk n ≡ true) (b : below n allowed ≡ true) (h : m < 2 ^ n) where
   nodes : List ℕ
-  nodes = keep (has m) (from 0 maskBits)
+  nodes = keep (has m) (from 0 mostNodes)
 
   nodes-below : (k : ℕ) → k ∈ nodes → k < n
   unfolding nodes
-  nodes-below k i = below-width n m k h (eqb-true (bit m k) 1 (keep-member (has m) (from 0 maskBits) i .1))
+  nodes-below k i = below-width n m k h (eqb-true (bit m k) 1 (keep-member (has m) (from 0 mostNodes) i .1))
 
   node-has : (k : ℕ) → k < n → has m k ≡ any (inRun k) (runs nodes)
   unfolding nodes
-  node-has k l = sym (runs-good n nodes nodes-below .1 k ∙ kept-any (has m) maskBits k (lt-of-lt-of-le l (nodes-few n o)))
+  node-has k l = sym (runs-good n nodes nodes-below .1 k ∙ kept-any (has m) mostNodes k (lt-of-lt-of-le l (nodes-few n o)))
 
   -- a text that is in order is read as its mask
   read-form : (text : List ℕ) → length text ≤ longestText → formOk n allowed (formOf text) ≡ true → formMask n allowed (formOf text) ≡ m

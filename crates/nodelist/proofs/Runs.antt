@@ -13,7 +13,7 @@ use lib.Count.{trailingZeros, trailing-of-zero, trailing-le}
 use lib.Pow.{ones-lt, shr-le}
 use borrow.Author.Tests.{eq-eqb, ne-eqb, eqb-true}
 use Rattle.rules.specs.Basics.{keep, from}
-use Rattle.rules.specs.Masks.{maskBits, bit, has, allNodes}
+use Rattle.rules.specs.Masks.{mostNodes, bit, has, allNodes}
 use Rattle.rules.specs.Text.{Run, joined, runs}
 use Rattle.rules.proofs.Lists.{_∈_, fails, keep-member, none-keep, from-member}
 use Rattle.rules.proofs.Masks.{bit-above, bit-none, not-in, bit-shift, bit-others, below-width, none-from, none-under, trailing-is}
@@ -72,12 +72,12 @@ pub no-run-from : (m a : ℕ) → m / 2 ^ a ≡ 0 → runsFrom m a ≡ []
 unfolding runsFrom runs
 no-run-from m a z =
     ap runs
-    (none-keep (has m) (from a (maskBits - a)) (λ x i. not-in m x (bit-above a m x (none-from m a z) (from-member a (maskBits - a) i .0))))
+    (none-keep (has m) (from a (mostNodes - a)) (λ x i. not-in m x (bit-above a m x (none-from m a z) (from-member a (mostNodes - a) i .0))))
 
 -- no run is left past the last node
-pub no-run-past : (m a : ℕ) → a ≡ maskBits → runsFrom m a ≡ []
+pub no-run-past : (m a : ℕ) → a ≡ mostNodes → runsFrom m a ≡ []
 unfolding runsFrom runs keep from
-no-run-past m a e = ap (λ (x : ℕ). runs (keep (has m) (from x (maskBits - x)))) e
+no-run-past m a e = ap (λ (x : ℕ). runs (keep (has m) (from x (mostNodes - x)))) e
 
 -- the bits under the trailing zeros are 0, and the next is 1
 trailing-bits : (w y : ℕ) → y < 2 ^ w → let t = trailingZeros w y in ((i : ℕ) → i < t → bit y i ≡ 0) × (t < w → bit y t ≡ 1)
@@ -90,32 +90,32 @@ trailing-bits w y h = go (eq-zero-or-pos y)
 -- the first run from a on starts at `low` and has so many nodes
 pub record FirstRun (m a low ones : ℕ) : Type 0 where
   pub some : 0 < ones
-  pub within : low + ones ≤ maskBits
+  pub within : low + ones ≤ mostNodes
   pub first : runsFrom m a ≡ runOf low (low + ones - 1) ∷ runsFrom m (low + ones - 1 + 1)
 
 -- the first run starts at the lowest node, and has the ones that follow
-first-at : (m a low : ℕ) → m < 2 ^ maskBits → LowestFrom maskBits m a low → FirstRun m a low (trailingZeros maskBits (allNodes maskBits - m / 2 ^ low))
+first-at : (m a low : ℕ) → m < 2 ^ mostNodes → LowestFrom mostNodes m a low → FirstRun m a low (trailingZeros mostNodes (allNodes mostNodes - m / 2 ^ low))
 unfolding runsFrom
 first-at m a low h l = record { some = some; within = within; first = first }
   where
     rest : ℕ
-    rest = allNodes maskBits - m / 2 ^ low
+    rest = allNodes mostNodes - m / 2 ^ low
 
     t : ℕ
-    t = trailingZeros maskBits rest
+    t = trailingZeros mostNodes rest
 
-    zeros : ((i : ℕ) → i < t → bit rest i ≡ 0) × (t < maskBits → bit rest t ≡ 1)
-    zeros = trailing-bits maskBits rest (lt-of-le-of-lt (sub-le (allNodes maskBits) (m / 2 ^ low)) (ones-lt maskBits))
+    zeros : ((i : ℕ) → i < t → bit rest i ≡ 0) × (t < mostNodes → bit rest t ≡ 1)
+    zeros = trailing-bits mostNodes rest (lt-of-le-of-lt (sub-le (allNodes mostNodes) (m / 2 ^ low)) (ones-lt mostNodes))
 
-    flipped : (i : ℕ) → i < maskBits → bit rest i ≡ 1 - bit m (low + i)
-    flipped i j = bit-others maskBits (m / 2 ^ low) i (lt-of-le-of-lt (shr-le m low) h) j ∙ ap (λ (x : ℕ). 1 - x) (bit-shift m low i)
+    flipped : (i : ℕ) → i < mostNodes → bit rest i ≡ 1 - bit m (low + i)
+    flipped i j = bit-others mostNodes (m / 2 ^ low) i (lt-of-le-of-lt (shr-le m low) h) j ∙ ap (λ (x : ℕ). 1 - x) (bit-shift m low i)
 
     ones : (i : ℕ) → low ≤ i → i < low + t → bit m i ≡ 1
     ones i s j =
         let q : low + (i - low) ≡ i = omega arith in
-        omega (arith, trailing-le maskBits rest, flipped (i - low) (omega (arith, trailing-le maskBits rest)), zeros .0 (i - low) (omega arith), ap (bit m) q)
+        omega (arith, trailing-le mostNodes rest, flipped (i - low) (omega (arith, trailing-le mostNodes rest)), zeros .0 (i - low) (omega arith), ap (bit m) q)
 
-    ended : t < maskBits → bit m (low + t) ≡ 0
+    ended : t < mostNodes → bit m (low + t) ≡ 0
     ended j = omega (arith, flipped t j, zeros .1 j)
 
     some : 0 < t
@@ -123,13 +123,13 @@ first-at m a low h l = record { some = some; within = within; first = first }
         pos-of-ne-zero
         (λ e. absurd (omega (arith, ended (omega arith), ap (λ (x : ℕ). bit m (low + x)) e, ap (bit m) (add-zero low), eqb-true (bit m low) 1 (l .member))))
 
-    within : low + t ≤ maskBits
-    within = omega (arith, some, below-width maskBits m (low + t - 1) h (ones (low + t - 1) (omega (arith, some)) (omega (arith, some))))
+    within : low + t ≤ mostNodes
+    within = omega (arith, some, below-width mostNodes m (low + t - 1) h (ones (low + t - 1) (omega (arith, some)) (omega (arith, some))))
 
     first : runsFrom m a ≡ runOf low (low + t - 1) ∷ runsFrom m (low + t - 1 + 1)
     first =
-        let left : ℕ = maskBits - suc (low + t - 1) in
-        let nodes : maskBits - a ≡ low - a + suc (t - 1 + left) = omega (arith, some, within, l .start) in
+        let left : ℕ = mostNodes - suc (low + t - 1) in
+        let nodes : mostNodes - a ≡ low - a + suc (t - 1 + left) = omega (arith, some, within, l .start) in
         let start : a + (low - a) ≡ low = omega (arith, l .start) in
         let next : low + t - 1 + 1 ≡ suc (low + t - 1) = omega (arith, some) in
         rw (
@@ -144,6 +144,6 @@ first-at m a low h l = record { some = some; within = within; first = first }
         (λ j. not-in m (suc (low + t - 1)) (ap (bit m) (let e : suc (low + t - 1) ≡ low + t = omega (arith, some) in e) ∙ ended (omega arith))))
 
 -- `trailing_zeros` of the mask leads to the first run, and of its complement past it
-pub first-run : (m a : ℕ) → m < 2 ^ maskBits → 0 < m / 2 ^ a
-    → let low = a + trailingZeros maskBits (m / 2 ^ a) in FirstRun m a low (trailingZeros maskBits (allNodes maskBits - m / 2 ^ low))
-first-run m a h p = first-at m a (a + trailingZeros maskBits (m / 2 ^ a)) h (trailing-lowest maskBits m a h p)
+pub first-run : (m a : ℕ) → m < 2 ^ mostNodes → 0 < m / 2 ^ a
+    → let low = a + trailingZeros mostNodes (m / 2 ^ a) in FirstRun m a low (trailingZeros mostNodes (allNodes mostNodes - m / 2 ^ low))
+first-run m a h p = first-at m a (a + trailingZeros mostNodes (m / 2 ^ a)) h (trailing-lowest mostNodes m a h p)

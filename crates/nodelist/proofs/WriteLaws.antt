@@ -9,7 +9,7 @@ use lib.ListN.{length, take, drop, length-take, length-drop, drop-of-length-le}
 use lib.Seq.{take-length}
 use borrow.Author.Tests.{le-leb, lt-leb}
 use Rattle.rules.specs.Machine.{nodesOk}
-use Rattle.rules.specs.Masks.{maskBits, below, has}
+use Rattle.rules.specs.Masks.{mostNodes, below, has}
 use Rattle.rules.specs.Basics.{keep, each, from}
 use Rattle.rules.specs.Decisions.{refuse, accept, wrote, written}
 use Rattle.rules.specs.Text.{comma, Run, runs, runText, commas, textOf, writeDecision, writeText}
@@ -26,7 +26,7 @@ commas-line (r ∷ s ∷ rs) = ap (λ (t : List ℕ). runText r ++ (comma ∷ t)
 -- the text of a mask is its line without the first comma
 pub text-line : (m : ℕ) → textOf m ≡ drop 1 (lineOf m)
 unfolding textOf lineOf runsFrom
-text-line m = commas-line (runs (keep (has m) (from 0 maskBits)))
+text-line m = commas-line (runs (keep (has m) (from 0 mostNodes)))
 
 -- so it is one byte shorter
 pub text-length : (m : ℕ) → length (textOf m) ≡ length (lineOf m) - 1

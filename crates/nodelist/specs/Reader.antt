@@ -6,7 +6,7 @@ use mathlib.Core.Option.{Option, none, some}
 use lib.Bits.{bitOr}
 use lib.Dec.{eqb, leb, ltb}
 use Rattle.rules.specs.Basics.{between}
-use Rattle.rules.specs.Masks.{maskBits, allNodes, maskOf}
+use Rattle.rules.specs.Masks.{mostNodes, allNodes, maskOf}
 use Rattle.rules.specs.Text.{comma, dash, isItems, names}
 use Rattle.nodelist.specs.declared.reader.Numbers.{Numbers}
 use Rattle.nodelist.specs.declared.reader.Item.{Item}
@@ -103,4 +103,4 @@ numbersRead Bad = none
 
 -- "one or more items split by single commas": the numbers that they name, if all are items
 unfoldable pub itemsRead : ℕ → List ℕ → Option ℕ
-itemsRead limit text = cond (isItems limit text) (some (maskOf maskBits (names text))) none
+itemsRead limit text = cond (isItems limit text) (some (maskOf mostNodes (names text))) none

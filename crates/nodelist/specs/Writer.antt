@@ -3,7 +3,7 @@ use mathlib.Core.Path.{_≡_}
 use Prim.Native.Nat.{ℕ, _+_, _-_, _≤_, _<_}
 use mathlib.Core.List.{List, [], _∷_}
 use Rattle.rules.specs.Basics.{keep, each, from}
-use Rattle.rules.specs.Masks.{maskBits, has}
+use Rattle.rules.specs.Masks.{mostNodes, has}
 use Rattle.rules.specs.Text.{comma, Run, runs, runText}
 use Rattle.nodelist.specs.declared.writer.NextRun.{NextRun}
 use Rattle.nodelist.specs.declared.writer.NextRun.the-variants.{Run as Span, Nothing}
@@ -18,13 +18,13 @@ runOf low high = record { low = low; high = high }
 
 -- the runs of the nodes from a on
 unfoldable pub runsFrom : ℕ → ℕ → List Run
-runsFrom m a = runs (keep (has m) (from a (maskBits - a)))
+runsFrom m a = runs (keep (has m) (from a (mostNodes - a)))
 
 -- what is found is the first run from a on, and the runs past it follow
 abbrev pub FirstFrom : ℕ → ℕ → NextRun → Type 0
 FirstFrom m a Nothing = runsFrom m a ≡ []
 FirstFrom m a (Span low high) =
-    (a ≤ low .0) × (low .0 ≤ high .0) × (high .0 < maskBits) × (runsFrom m a ≡ runOf (low .0) (high .0) ∷ runsFrom m (high .0 + 1))
+    (a ≤ low .0) × (low .0 ≤ high .0) × (high .0 < mostNodes) × (runsFrom m a ≡ runOf (low .0) (high .0) ∷ runsFrom m (high .0 + 1))
 
 -- a run with a comma before it
 abbrev pub lineRun : Run → List ℕ

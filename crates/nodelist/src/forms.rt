@@ -4,7 +4,7 @@ ghost use mathlib.Core.Path.{_≡_};
 ghost use Prim.Native.Nat.{_^_, _<_, _≤_};
 ghost use lib.ListN.{drop};
 ghost use Rattle.rules.specs.Basics.{same};
-ghost use Rattle.rules.specs.Masks.{maskBits, size};
+ghost use Rattle.rules.specs.Masks.{mostNodes, size};
 ghost use Rattle.rules.specs.Text.{allWord, formOf};
 ghost use Rattle.nodelist.specs.Reader.{itemsRead};
 ghost use Rattle.nodelist.specs.Forms.{exceptFor, rankedFor, formRead, decided};
@@ -27,7 +27,7 @@ fn is_all(text: &[u8]) -> bool
 
 // A text of items: the nodes named.
 fn read_plain(text: &[u8], nodes: usize) -> Decision
-    requires { ⌜ nodes ≤ maskBits ⌝ }
+    requires { ⌜ nodes ≤ mostNodes ⌝ }
     ensures { λ r. ⌜ decisionOf r ≡ decided (itemsRead nodes (now (text .entry))) ⌝ }
 {
     let items = read_items(text, nodes);
@@ -39,7 +39,7 @@ fn read_plain(text: &[u8], nodes: usize) -> Decision
 
 // A text after `!`: all nodes below N not named.
 fn read_except(text: &[u8], nodes: usize) -> Decision
-    requires { do ⌜ (0 < (← ⟦text.len()⟧)) × (nodes ≤ maskBits) ⌝ }
+    requires { do ⌜ (0 < (← ⟦text.len()⟧)) × (nodes ≤ mostNodes) ⌝ }
     ensures { λ r. ⌜ decisionOf r ≡ decided (exceptFor nodes (itemsRead nodes (drop 1 (now (text .entry))))) ⌝ }
 {
     let items = read_items(&text[1..], nodes);
@@ -52,7 +52,7 @@ fn read_except(text: &[u8], nodes: usize) -> Decision
 // A text after `+`: the allowed nodes whose ranks are named.
 fn read_ranks(text: &[u8], allowed: Mask) -> Decision
     requires { do ⌜ 0 < (← ⟦text.len()⟧) ⌝ }
-    ensures { λ r. ⌜ decisionOf r ≡ decided (rankedFor (allowed .0) (itemsRead (size maskBits (allowed .0)) (drop 1 (now (text .entry))))) ⌝ }
+    ensures { λ r. ⌜ decisionOf r ≡ decided (rankedFor (allowed .0) (itemsRead (size mostNodes (allowed .0)) (drop 1 (now (text .entry))))) ⌝ }
 {
     let items = read_items(&text[1..], allowed.size() as usize);
     match items {
@@ -63,7 +63,7 @@ fn read_ranks(text: &[u8], allowed: Mask) -> Decision
 
 // The nodes that a text names, by its form.
 pub fn read_form(nodes: usize, allowed: Mask, text: &[u8]) -> Decision
-    requires { ⌜ (nodes ≤ maskBits) × (allowed .0 < 2 ^ nodes) ⌝ }
+    requires { ⌜ (nodes ≤ mostNodes) × (allowed .0 < 2 ^ nodes) ⌝ }
     ensures { λ r. ⌜ decisionOf r ≡ decided (formRead nodes (allowed .0) (formOf (now (text .entry)))) ⌝ }
 {
     if text.len() == 0 {

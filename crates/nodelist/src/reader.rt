@@ -3,7 +3,7 @@
 ghost use mathlib.Core.Path.{_≡_};
 ghost use Prim.Native.Nat.{_<_, _≤_};
 ghost use lib.Bits.{bitOr};
-ghost use Rattle.rules.specs.Masks.{maskBits};
+ghost use Rattle.rules.specs.Masks.{mostNodes};
 ghost use Rattle.nodelist.specs.Reader.{Fits, grown, numberBelow, rangeBelow, withDigit, withDash, withByte};
 ghost use Rattle.nodelist.specs.Reader.{span, closed, stepped, ended, numbersRead, itemsRead};
 use nodemask;
@@ -36,7 +36,7 @@ pub enum Items {
 
 // A number with one digit more. After 0 there is none below the limit.
 fn grown(value: usize, digit: usize, limit: usize) -> usize
-    requires { ⌜ (value < maskBits) × (digit < 10) ⌝ }
+    requires { ⌜ (value < mostNodes) × (digit < 10) ⌝ }
     ensures { λ r. ⌜ r ≡ grown limit value digit ⌝ }
 {
     if value == 0 {
@@ -50,7 +50,7 @@ impl Numbers {
 
     // The numbers from low to high put in.
     fn with_span(self, low: usize, high: usize) -> Numbers
-        requires { ⌜ (low ≤ high) × (high < maskBits) ⌝ }
+        requires { ⌜ (low ≤ high) × (high < mostNodes) ⌝ }
         ensures { λ r. ⌜ r .0 ≡ bitOr (self .0) (span low high) ⌝ }
     {
         let under = nodemask::low_bits(low);
@@ -92,7 +92,7 @@ impl Item {
     }
 
     fn digit(self, digit: usize, limit: usize) -> Item
-        requires { ⌜ (Fits limit self) × (limit ≤ maskBits) × (digit < 10) ⌝ }
+        requires { ⌜ (Fits limit self) × (limit ≤ mostNodes) × (digit < 10) ⌝ }
         ensures { λ r. ⌜ r ≡ withDigit limit self digit ⌝ }
     {
         match self {
@@ -118,7 +118,7 @@ impl Item {
 
     // The item with one byte more, not a comma.
     fn byte(self, x: u8, limit: usize) -> Item
-        requires { ⌜ (Fits limit self) × (limit ≤ maskBits) ⌝ }
+        requires { ⌜ (Fits limit self) × (limit ≤ mostNodes) ⌝ }
         ensures { λ r. ⌜ r ≡ withByte limit self x ⌝ }
     {
         if x == b'-' {
@@ -137,7 +137,7 @@ impl Item {
 impl Progress {
     // The item ends here: a number or a range names its numbers, anything else is broken.
     fn close(self) -> Progress
-        requires { ⌜ Fits maskBits (self .item) ⌝ }
+        requires { ⌜ Fits mostNodes (self .item) ⌝ }
         ensures { λ r. ⌜ r ≡ closed (self .named) (self .item) ⌝ }
     {
         let named = self.named;
@@ -176,7 +176,7 @@ impl Progress {
 
     // One byte more.
     fn step(self, x: u8, limit: usize) -> Progress
-        requires { ⌜ (Fits limit (self .item)) × (limit ≤ maskBits) ⌝ }
+        requires { ⌜ (Fits limit (self .item)) × (limit ≤ mostNodes) ⌝ }
         ensures { λ r. ⌜ r ≡ stepped limit self x ⌝ }
     {
         if x == b',' {
@@ -192,7 +192,7 @@ impl Progress {
 
     // The text ends here.
     fn end(self) -> Items
-        requires { ⌜ Fits maskBits (self .item) ⌝ }
+        requires { ⌜ Fits mostNodes (self .item) ⌝ }
         ensures { λ r. ⌜ numbersRead r ≡ ended self ⌝ }
     {
         let last = self.close();
@@ -210,7 +210,7 @@ impl Progress {
 
 // The numbers below the limit that a text of items names.
 pub fn read_items(text: &[u8], limit: usize) -> Items
-    requires { ⌜ limit ≤ maskBits ⌝ }
+    requires { ⌜ limit ≤ mostNodes ⌝ }
     ensures { λ r. ⌜ numbersRead r ≡ itemsRead limit (now (text .entry)) ⌝ }
 {
     let mut at = Progress {

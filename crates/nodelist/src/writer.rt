@@ -4,7 +4,7 @@ ghost use mathlib.Core.Path.{_≡_};
 ghost use Prim.Native.Nat.{_+_, _<_, _≤_};
 ghost use lib.ListN.{length, take};
 ghost use lib.Seq.{sets};
-ghost use Rattle.rules.specs.Masks.{maskBits};
+ghost use Rattle.rules.specs.Masks.{mostNodes};
 ghost use Rattle.rules.specs.Text.{decimal};
 ghost use Rattle.nodelist.specs.Writer.{FirstFrom, runOf, lineRun, lineOf, lineBytes};
 ghost use Rattle.rules.specs.Answers.{decisionOf};
@@ -12,6 +12,7 @@ ghost use Rattle.rules.specs.Decisions.{wrote, written};
 ghost use Rattle.rules.specs.Text.{textOf};
 use nodemask::Mask;
 use rules::Decision;
+use rules::MOST_NODES;
 use rules::Node;
 use rules::Refusal;
 
@@ -23,7 +24,7 @@ pub enum NextRun {
 
 // The first run of a mask from a node on.
 fn next_run(mask: Mask, from: Node) -> NextRun
-    requires { ⌜ from .0 < maskBits ⌝ }
+    requires { ⌜ from .0 < mostNodes ⌝ }
     ensures { λ r. ⌜ FirstFrom (mask .0) (from .0) r ⌝ }
 {
     let above = mask.0 >> from.0;
@@ -37,7 +38,7 @@ fn next_run(mask: Mask, from: Node) -> NextRun
 
 // A number put into a line at an index: the index after it.
 fn put_number(line: &mut [u8; 192], at: usize, n: usize) -> usize
-    requires { ⌜ (n < maskBits) × (at + length (decimal n) ≤ lineBytes) ⌝ }
+    requires { ⌜ (n < mostNodes) × (at + length (decimal n) ≤ lineBytes) ⌝ }
     ensures end { λ r. ⌜ r ≡ at + length (decimal n) ⌝ }
     ensures put { λ _. ⌜ now (line .exit) ≡ sets (now (line .entry)) at (decimal n) ⌝ }
 {
@@ -52,7 +53,7 @@ fn put_number(line: &mut [u8; 192], at: usize, n: usize) -> usize
 
 // A comma and a run put into a line at an index: the index after them.
 fn put_run(line: &mut [u8; 192], at: usize, low: Node, high: Node) -> usize
-    requires { ⌜ (low .0 ≤ high .0) × (high .0 < maskBits) × (at + length (lineRun (runOf (low .0) (high .0))) ≤ lineBytes) ⌝ }
+    requires { ⌜ (low .0 ≤ high .0) × (high .0 < mostNodes) × (at + length (lineRun (runOf (low .0) (high .0))) ≤ lineBytes) ⌝ }
     ensures end { λ r. ⌜ r ≡ at + length (lineRun (runOf (low .0) (high .0))) ⌝ }
     ensures put { λ _. ⌜ now (line .exit) ≡ sets (now (line .entry)) at (lineRun (runOf (low .0) (high .0))) ⌝ }
 {
@@ -73,7 +74,7 @@ fn put_runs(line: &mut [u8; 192], mask: Mask) -> usize
 {
     let mut len = 0;
     let mut at: u8 = 0;
-    while at < 64 {
+    while (at as usize) < MOST_NODES {
         let run = next_run(mask, Node(at));
         match run {
             NextRun::Run(low, high) => {

@@ -2,9 +2,9 @@
 
 ghost use mathlib.Core.Path.{_≡_};
 ghost use Prim.Native.Nat.{_-_, _^_, _<_, _≤_};
-ghost use Rattle.rules.specs.Basics.{first, keep, around};
 ghost use Rattle.rules.specs.Machine.{nodesOk};
-ghost use Rattle.rules.specs.Masks.{maskBits, has, isNone, below, allNodes, both, within, insert, rank, size, lowest, folded, remapped};
+ghost use Rattle.rules.specs.Masks.{mostNodes, bit, has, isEmpty, below, allNodes, both, within, insert, rank, size, lowest, folded, remapped};
+ghost use Rattle.rules.specs.SearchOrder.{target};
 ghost use Rattle.nodemask.specs.Found.{foundNode};
 ghost use Rattle.nodemask.specs.Ranks.{wrapped, ranksIn, rankedIn};
 use rules::MOST_NODES;
@@ -33,10 +33,10 @@ pub fn nodes_ok(nodes: usize) -> bool
 
 // The bits below n.
 pub fn low_bits(n: usize) -> u64
-    requires { ⌜ n ≤ maskBits ⌝ }
+    requires { ⌜ n ≤ mostNodes ⌝ }
     ensures { λ r. ⌜ r ≡ allNodes n ⌝ }
 {
-    if n < 64 {
+    if n < MOST_NODES {
         return (1u64 << n) - 1;
     }
     0xffff_ffff_ffff_ffff
@@ -53,8 +53,8 @@ impl Ranks {
     }
 
     // The set with one rank more.
-    fn with(self, rank: Rank) -> Ranks
-        requires { ⌜ rank .0 < maskBits ⌝ }
+    fn insert(self, rank: Rank) -> Ranks
+        requires { ⌜ rank .0 < mostNodes ⌝ }
         ensures { λ r. ⌜ r .0 ≡ insert (self .0) (rank .0) ⌝ }
     {
         Ranks(self.0 | (1u64 << rank.0))
@@ -62,12 +62,12 @@ impl Ranks {
 
     // The ranks mod w: the whole set shifted by w, twice w, four times w, .. is laid over it.
     fn wrapped(self, w: u32) -> Ranks
-        requires { ⌜ (0 < w) × (w ≤ maskBits) ⌝ }
+        requires { ⌜ (0 < w) × (w ≤ mostNodes) ⌝ }
         ensures { λ r. ⌜ r .0 ≡ wrapped w (self .0) ⌝ }
     {
         let mut laid = self.0;
-        let mut step = w;
-        while step < 64 {
+        let mut step = w as usize;
+        while step < MOST_NODES {
             laid = laid | (laid >> step);
             step += step;
         }
@@ -93,7 +93,7 @@ impl Mask {
 
     // All nodes below n.
     pub fn all_nodes(n: usize) -> Mask
-        requires { ⌜ n ≤ maskBits ⌝ }
+        requires { ⌜ n ≤ mostNodes ⌝ }
         ensures { λ r. ⌜ r .0 ≡ allNodes n ⌝ }
     {
         Mask(low_bits(n))
@@ -103,14 +103,14 @@ impl Mask {
     pub fn has(self, node: Node) -> bool
         ensures { λ r. ⌜ r ≡ has (self .0) (node .0) ⌝ }
     {
-        if node.0 < 64 {
+        if (node.0 as usize) < MOST_NODES {
             return self.0 & (1u64 << node.0) != 0;
         }
         false
     }
 
     pub fn is_empty(self) -> bool
-        ensures { λ r. ⌜ r ≡ isNone (self .0) ⌝ }
+        ensures { λ r. ⌜ r ≡ isEmpty (self .0) ⌝ }
     {
         self.0 == Mask::EMPTY.0
     }
@@ -126,14 +126,14 @@ impl Mask {
     pub fn below(self, n: usize) -> bool
         ensures { λ r. ⌜ r ≡ below n (self .0) ⌝ }
     {
-        if n < 64 {
+        if n < MOST_NODES {
             return self.0 >> n == 0;
         }
         true
     }
 
     // The nodes in both masks.
-    pub fn and(self, other: Mask) -> Mask
+    pub fn both(self, other: Mask) -> Mask
         ensures { λ r. ⌜ r .0 ≡ both (self .0) (other .0) ⌝ }
     {
         Mask(self.0 & other.0)
@@ -141,31 +141,23 @@ impl Mask {
 
     // The nodes below n that are not in the mask.
     pub fn others(self, n: usize) -> Mask
-        requires { ⌜ (n ≤ maskBits) × (self .0 < 2 ^ n) ⌝ }
+        requires { ⌜ (n ≤ mostNodes) × (self .0 < 2 ^ n) ⌝ }
         ensures { λ r. ⌜ r .0 ≡ allNodes n - self .0 ⌝ }
     {
         let all = Mask::all_nodes(n);
         Mask(all.0 & !self.0)
     }
 
-    // The mask with one node more.
-    pub fn with(self, node: Node) -> Mask
-        requires { ⌜ node .0 < maskBits ⌝ }
-        ensures { λ r. ⌜ r .0 ≡ insert (self .0) (node .0) ⌝ }
-    {
-        Mask(self.0 | (1u64 << node.0))
-    }
-
     // How many nodes there are: a count of ones.
     pub fn size(self) -> u32
-        ensures { λ r. ⌜ r ≡ size maskBits (self .0) ⌝ }
+        ensures { λ r. ⌜ r ≡ size mostNodes (self .0) ⌝ }
     {
         u64::count_ones(self.0)
     }
 
     // The rank of a node: the ones below it.
     pub fn rank(self, node: Node) -> Rank
-        requires { ⌜ node .0 < maskBits ⌝ }
+        requires { ⌜ node .0 < mostNodes ⌝ }
         ensures { λ r. ⌜ r .0 ≡ rank (self .0) (node .0) ⌝ }
     {
         Rank(u64::count_ones(self.0 & ((1u64 << node.0) - 1)))
@@ -174,23 +166,23 @@ impl Mask {
     // The lowest node: the zeros under the first one.
     pub fn lowest(self) -> Node
         requires { ⌜ 0 < self .0 ⌝ }
-        ensures { λ r. ⌜ r .0 ≡ lowest maskBits (self .0) ⌝ }
+        ensures { λ r. ⌜ r .0 ≡ lowest mostNodes (self .0) ⌝ }
     {
         Node(u64::trailing_zeros(self.0) as u8)
     }
 
-    // The first node from c on, once round.
-    pub fn next(self, c: u8) -> Found
-        requires { ⌜ c ≤ maskBits ⌝ }
-        ensures { λ r. ⌜ foundNode r ≡ first (keep (has (self .0)) (around maskBits c maskBits)) ⌝ }
+    // Interleave's target: the first node from the cursor field on, once round.
+    pub fn target(self, cursor: u8) -> Found
+        requires { ⌜ cursor ≤ mostNodes ⌝ }
+        ensures { λ r. ⌜ foundNode r ≡ target (self .0) cursor ⌝ }
     {
         if self.is_empty() {
             return Found::Nothing;
         }
-        if c < 64 {
-            let above = self.0 >> c;
+        if (cursor as usize) < MOST_NODES {
+            let above = self.0 >> cursor;
             if above != 0 {
-                return Found::At(Node(c + (u64::trailing_zeros(above) as u8)));
+                return Found::At(Node(cursor + (u64::trailing_zeros(above) as u8)));
             }
         }
         Found::At(Node(u64::trailing_zeros(self.0) as u8))
@@ -199,9 +191,17 @@ impl Mask {
     // The mask without its lowest node.
     pub fn rest(self) -> Mask
         requires { ⌜ 0 < self .0 ⌝ }
-        ensures { λ r. ⌜ r .0 ≡ self .0 - 2 ^ lowest maskBits (self .0) ⌝ }
+        ensures { λ r. ⌜ r .0 ≡ self .0 - 2 ^ lowest mostNodes (self .0) ⌝ }
     {
         Mask(self.0 & (self.0 - 1))
+    }
+
+    // The mask without one of its nodes.
+    pub fn without(self, node: Node) -> Mask
+        requires { ⌜ bit (self .0) (node .0) ≡ 1 ⌝ }
+        ensures { λ r. ⌜ r .0 ≡ self .0 - 2 ^ node .0 ⌝ }
+    {
+        Mask(self.0 - (1u64 << node.0))
     }
 
     // The ranks of the mask's nodes in a set.
@@ -211,7 +211,7 @@ impl Mask {
         let mut out = Ranks::EMPTY;
         let mut left = self;
         while left.0 != 0 {
-            out = out.with(set.rank(left.lowest()));
+            out = out.insert(set.rank(left.lowest()));
             left = left.rest();
         }
         out
@@ -236,7 +236,7 @@ impl Mask {
     // The user's bits, each taken for a rank, folded into the allowed nodes.
     pub fn folded(self, allowed: Mask) -> Mask
         requires { ⌜ 0 < allowed .0 ⌝ }
-        ensures { λ r. ⌜ r .0 ≡ folded maskBits (self .0) (allowed .0) ⌝ }
+        ensures { λ r. ⌜ r .0 ≡ folded mostNodes (self .0) (allowed .0) ⌝ }
     {
         let ranks = Ranks::of(self.0).wrapped(allowed.size());
         allowed.ranked(ranks)
@@ -245,7 +245,7 @@ impl Mask {
     // The effective nodes, carried from the old allowed set to the new one.
     pub fn remapped(self, old: Mask, new: Mask) -> Mask
         requires { ⌜ 0 < new .0 ⌝ }
-        ensures { λ r. ⌜ r .0 ≡ remapped maskBits (self .0) (old .0) (new .0) ⌝ }
+        ensures { λ r. ⌜ r .0 ≡ remapped mostNodes (self .0) (old .0) (new .0) ⌝ }
     {
         let ranks = self.ranks_in(old).wrapped(new.size());
         new.ranked(ranks)

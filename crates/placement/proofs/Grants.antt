@@ -13,7 +13,7 @@ use borrow.Rule.Slice.PartMut.{set-mid-at, put-same}
 use lib.Dec.{eqb, eqb·suc-zero}
 use lib.ListN.{length, getD, take, drop, length-take, length-drop}
 use lib.Seq.{drop-cons, getD-take, length-take-le}
-use Rattle.rules.specs.Basics.{keep, first, firstOr, isEmpty, from, around, sum}
+use Rattle.rules.specs.Basics.{keep, first, firstOr, isNil, from, around, sum}
 use Rattle.rules.specs.Machine.{firstPage, pagesOf}
 use Rattle.rules.specs.Masks.{bit, has}
 use Rattle.rules.specs.Records.{Turn}
@@ -22,6 +22,7 @@ use Rattle.rules.proofs.Lists.{_∈_, keep-append, member-at, sum-take-suc, sum
 use Rattle.rules.proofs.Masks.{below-width}
 use Rattle.rules.proofs.Near.{near-allowed}
 use Rattle.machine.specs.Listing.{Listed}
+use Rattle.machine.proofs.FirstNode.{near-step}
 use Rattle.pages.specs.FirstZero.{shift, firstZero, mark}
 use Rattle.pages.proofs.FirstZero.{shift-shift}
 use Rattle.rules.specs.declared.Node.{Node}
@@ -30,7 +31,7 @@ use Rattle.records.specs.Jobs.{turnOf}
 use Rattle.placement.specs.declared.plan.Walk.{Walk}
 use Rattle.placement.specs.declared.grant.Grant.{Grant}
 use Rattle.placement.specs.declared.grant.Grant.the-variants.{Taken as TakenBy, Nothing}
-use Rattle.placement.specs.Grants.{Taken, taken, beyond, Granted}
+use Rattle.placement.specs.Grants.{Taken, taken, Granted}
 use Rattle.placement.specs.Plans.{leaves, earlyTries, roundTries, walkTries}
 
 -- ---- tries end to end
@@ -76,7 +77,7 @@ takenAt t none = none
 takenAt t (some p) = some (record { node = t .node; page = p; turn = t .turn })
 
 gets-one : (counts ledger : List ℕ) (j : ℕ) (t : Try) → gets counts ledger j (t ∷ []) ≡ takenAt t (first (freePages counts ledger (t .node)))
-unfolding chosen hasRoom pickPage keep first firstOr isEmpty
+unfolding chosen hasRoom pickPage keep first firstOr isNil
 gets-one counts ledger j t = go (freePages counts ledger (t .node)) refl
   where
     go : (ps : List ℕ) → freePages counts ledger (t .node) ≡ ps → gets counts ledger j (t ∷ []) ≡ takenAt t (first ps)
@@ -162,15 +163,19 @@ pub listed-next : (turn : Turn) (nodes : List ℕ) (len i : ℕ) → len ≤ len
 listed-next turn nodes len i h l =
     rw (drop-cons (take len nodes) i 0 (rw (length-take-le len nodes h) l), getD-take len nodes i 0 l, add-one)
 
--- "x first if allowed, then the other allowed nodes"
-pub near-first : (n : ℕ) (distances : List ℕ) (set x : ℕ) (turn : Turn) → x < n
-    → map (try turn) (near n distances set x) ≡ tried n set (try turn x ∷ []) ++ map (try turn) (beyond n distances set x)
-unfolding near beyond tried keep
-near-first n distances set x turn l = go (has set x) refl
+-- the first node of near(x) is tried first, and then the nodes of near(x) over the set without it
+pub near-tries : (n : ℕ) (distances : List ℕ) (set x : ℕ) (turn : Turn) {y : ℕ} → first (near n distances set x) ≡ some y
+    → map (try turn) (near n distances set x) ≡ (try turn y ∷ []) ++ map (try turn) (near n distances (set - 2 ^ y) x)
+near-tries n distances set x turn h = rw (near-step n distances set x h .1)
+
+-- where near(x) has no first node it has none
+pub near-none : (n : ℕ) (distances : List ℕ) (set x : ℕ) (turn : Turn) → first (near n distances set x) ≡ none → map (try turn) (near n distances set x) ≡ []
+unfolding first
+near-none n distances set x turn h = go (near n distances set x) h
   where
-    go : (b : Bool) → has set x ≡ b → map (try turn) (near n distances set x) ≡ tried n set (try turn x ∷ []) ++ map (try turn) (beyond n distances set x)
-    go true e = rw (lt-ltb x n l, e)
-    go false e = rw (lt-ltb x n l, e)
+    go : (ns : List ℕ) → first ns ≡ none → map (try turn) ns ≡ []
+    go [] e = refl
+    go (k ∷ ns) e = let z : _≡_ {A = ℕ} 0 1 = cc in absurd (omega arith)
 
 -- ---- places, one by one
 

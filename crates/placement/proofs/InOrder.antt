@@ -1,54 +1,21 @@
--- Refusal 1: how the code tests it; tables that are in order for a request are so for every call, and stay so.
+-- Refusal 1: how the code tests it, and what a grant and a release may count on.
 -- Assumes nothing.
 use Prim.Native.Nat.{ℕ, _%_}
 use mathlib.Core.Path.{_≡_}
-use mathlib.Core.Bool.{Bool, true, false, _&&_, false≢true}
+use mathlib.Core.Bool.{true, _&&_}
 use mathlib.Core.List.{List}
 use native.Mathlib.Nat.{lt-of-lt-of-le}
 use borrow.Author.Tests.{leb-true, ltb-true}
 use lib.Dec.{leb, eqb}
 use lib.ListN.{length}
 use Rattle.rules.specs.Basics.{sum}
-use Rattle.rules.specs.Machine.{Machine, nodeCount, nodesOk, pagesOk, cpusOk, distancesOk, pageTableOk, machineOk}
+use Rattle.rules.specs.Machine.{Machine, nodeCount, nodesOk, pagesOk, pageTableOk, machineOk}
 use Rattle.rules.specs.Records.{wordsPerJob, mostJobs, jobCount, jobTableOk}
 use Rattle.rules.specs.Calls.{Tables, isJob, requestTablesOk, releaseTablesOk, recordTablesOk}
 use Rattle.rules.proofs.Lists.{both-true}
-use Rattle.rules.proofs.Machine.{counts-in-order}
+use Rattle.rules.proofs.InOrder.{counted}
+use Rattle.machine.specs.Tables.{Starts}
 use Rattle.placement.specs.Grants.{Ready}
-
--- test 1 looks at the lengths of the page table and the job table only
-pub same-lengths-ok : (m : Machine) (t u : Tables) → length (u .ledger) ≡ length (t .ledger) → length (u .records) ≡ length (t .records)
-    → requestTablesOk m t ≡ true → requestTablesOk m u ≡ true
-unfolding requestTablesOk
-same-lengths-ok m t u e f h = rw (e, f) h
-
-release-tests : (nodes pages cpus distances bytes words : Bool) → (nodes && pages && cpus && distances && bytes && words) ≡ true
-    → (nodes && pages && bytes && words) ≡ true
-release-tests false p c d b w h = absurd (false≢true h)
-release-tests true false c d b w h = absurd (false≢true h)
-release-tests true true false d b w h = absurd (false≢true h)
-release-tests true true true false b w h = absurd (false≢true h)
-release-tests true true true true b w h = h
-
-record-tests : (nodes pages bytes words : Bool) → (nodes && pages && bytes && words) ≡ true → (nodes && words) ≡ true
-record-tests false p b w h = absurd (false≢true h)
-record-tests true false b w h = absurd (false≢true h)
-record-tests true true false w h = absurd (false≢true h)
-record-tests true true true w h = h
-
--- tables that are in order for a request are so for a release
-pub release-ok : (m : Machine) (t : Tables) → requestTablesOk m t ≡ true → releaseTablesOk (m .pageCounts) t ≡ true
-unfolding requestTablesOk releaseTablesOk machineOk
-release-ok m t h =
-    release-tests (nodesOk (nodeCount m)) (pagesOk (m .pageCounts)) (cpusOk (nodeCount m) (m .cpuNodes)) (distancesOk (nodeCount m) (m .distances))
-    (pageTableOk (m .pageCounts) (length (t .ledger))) (jobTableOk (length (t .records))) h
-
--- and for install, rebind and clear
-pub record-ok : (m : Machine) (t : Tables) → requestTablesOk m t ≡ true → recordTablesOk (nodeCount m) (length (t .records)) ≡ true
-unfolding releaseTablesOk recordTablesOk
-record-ok m t h =
-    record-tests (nodesOk (nodeCount m)) (pagesOk (m .pageCounts)) (pageTableOk (m .pageCounts) (length (t .ledger))) (jobTableOk (length (t .records)))
-    (release-ok m t h)
 
 -- of a machine in order the page table and the job table are left to test
 pub request-tested : (m : Machine) (t : Tables) → machineOk m ≡ true
@@ -69,17 +36,19 @@ release-tested counts t h =
     rw (n .0, n .1)
 
 -- what a grant may count on, and a release
-pub ready : (counts : List ℕ) (t : Tables) (j : ℕ) → releaseTablesOk counts t ≡ true → isJob (t .records) j ≡ true → Ready counts (t .ledger) j
+pub ready : (counts : List ℕ) (t : Tables) (j : ℕ) {starts : List ℕ} → releaseTablesOk counts t ≡ true → isJob (t .records) j ≡ true → Starts counts starts
+    → Ready counts starts (t .ledger) j
 unfolding releaseTablesOk pageTableOk jobTableOk
-ready counts t j ok known =
+ready counts t j ok known begin =
     let jobs = jobCount (length (t .records)) in
     let a = both-true {a = nodesOk (length counts) && pagesOk counts && pageTableOk counts (length (t .ledger))} {b = jobTableOk (length (t .records))} ok in
     let b = both-true {a = nodesOk (length counts) && pagesOk counts} {b = pageTableOk counts (length (t .ledger))} (a .0) in
-    let c = counts-in-order counts (b .0) in
+    let c = counted counts t ok in
     let few = both-true {a = leb 1 jobs} {b = leb jobs mostJobs} (both-true {a = eqb (length (t .records) % wordsPerJob) 0} (a .1) .1) in
     record {
       few = c .nodesMost;
       pages = c .pagesMost;
+      begin = begin;
       fits = leb-true (sum counts) (length (t .ledger)) (b .1);
       job = lt-of-lt-of-le (ltb-true j jobs known) (leb-true jobs mostJobs (few .1));
     }

@@ -15,7 +15,7 @@ use lib.ListN.{length, getD, take, drop}
 use lib.Pow.{pow-mono}
 use lib.Seq.{getD-take, drop-cons}
 use Rattle.rules.specs.Basics.{around}
-use Rattle.rules.specs.Masks.{maskBits, bit, has, isNone, below, within, both, lowest, folded}
+use Rattle.rules.specs.Masks.{mostNodes, bit, has, isEmpty, below, within, both, lowest, folded}
 use Rattle.rules.specs.Records.{Record, Turn, default, preferred, bind, interleave, Flag, plain, static, relative, unknownFlag, aMask, aList}
 use Rattle.rules.specs.Records.{carries, modeOf, flagOf, lastIs, noMasks, effectiveFits, masksFit, dataFits, placesOf}
 use Rattle.rules.specs.SearchOrder.{try, nearest, nodeAt, ringTries, target, interleaved, planIn, modeInForce, plan}
@@ -30,12 +30,12 @@ use Rattle.placement.specs.Plans.{leaves, roundTries}
 -- ---- nodes of the effective mask
 
 -- "effective .. within allowed": below N
-pub effective-lt : (n : ℕ) (r : Record) → n ≤ maskBits → Formed n r → r .effective < 2 ^ n
+pub effective-lt : (n : ℕ) (r : Record) → n ≤ mostNodes → Formed n r → r .effective < 2 ^ n
 effective-lt n r l h = lt-of-le-of-lt (rw (effective-within n r l h) at (and-le-r (r .effective) (r .allowed))) (h .allowed-below)
 
 -- the lowest node of a mask below N
-pub lowest-below : (n e : ℕ) → n ≤ maskBits → 0 < e → e < 2 ^ n → lowest maskBits e < n
-lowest-below n e few p h = below-width n e (lowest maskBits e) h (lowest-is maskBits e p (lt-of-lt-of-le h (pow-mono few)) .member)
+pub lowest-below : (n e : ℕ) → n ≤ mostNodes → 0 < e → e < 2 ^ n → lowest mostNodes e < n
+lowest-below n e few p h = below-width n e (lowest mostNodes e) h (lowest-is mostNodes e p (lt-of-lt-of-le h (pow-mono few)) .member)
 
 -- the target of a mask below N
 pub target-below : (n e c : ℕ) {t : ℕ} → e < 2 ^ n → target e c ≡ some t → t < n
@@ -45,17 +45,17 @@ target-below n e c {t} h q = below-width n e t h (eqb-true (bit e t) 1 (first-ke
 -- an empty mask has no target
 pub some-target : (e c : ℕ) {t : ℕ} → target e c ≡ some t → e ≡ 0 → ⊥
 unfolding target
-some-target e c q z = let s = rw z at q in let n = turn-none maskBits c in let y : _≡_ {A = ℕ} 0 1 = cc in omega arith
+some-target e c q z = let s = rw z at q in let n = turn-none mostNodes c in let y : _≡_ {A = ℕ} 0 1 = cc in omega arith
 
 -- and only an empty one has none
-pub no-target : (n e c : ℕ) → n ≤ maskBits → e < 2 ^ n → c ≤ n → target e c ≡ none → e ≡ 0
+pub no-target : (n e c : ℕ) → n ≤ mostNodes → e < 2 ^ n → c ≤ n → target e c ≡ none → e ≡ 0
 no-target n e c few l k q = go (ℕ-discrete e 0)
   where
     go : Dec (e ≡ 0) → e ≡ 0
     go (yes z) = z
     go (no d) =
-        let low = lowest-is maskBits e (omega arith) (lt-of-lt-of-le l (pow-mono few)) in
-        absurd (false≢true (sym (target-none e c (omega arith) .0 q (lowest maskBits e) (low .small)) ∙ eq-eqb _ 1 (low .member)))
+        let low = lowest-is mostNodes e (omega arith) (lt-of-lt-of-le l (pow-mono few)) in
+        absurd (false≢true (sym (target-none e c (omega arith) .0 q (lowest mostNodes e) (low .small)) ∙ eq-eqb _ 1 (low .member)))
 
 -- ---- the mode in force
 
@@ -69,7 +69,7 @@ module _ (n limit : ℕ) (r : Record) (x : ℕ) where
   -- "Default .. near(CPU's node)"
   pub default-plan : modeOf (r .mode) ≡ default → plan limit r x ≡ nearest limit x (r .turn)
   unfolding plan modeInForce planIn
-  default-plan e = rw e (same (eqb (r .flag) 1 && isNone (r .effective)))
+  default-plan e = rw e (same (eqb (r .flag) 1 && isEmpty (r .effective)))
     where
       same : (b : Bool) → planIn (cond b default default) limit r x ≡ nearest limit x (r .turn)
       same true = refl
@@ -82,7 +82,7 @@ module _ (n limit : ℕ) (r : Record) (x : ℕ) where
     own-plan = rw (ne-eqb (r .effective) 0 d, and-false (eqb (r .flag) 1))
 
     -- "Preferred: near(lowest effective node)"
-    pub preferred-plan : modeOf (r .mode) ≡ preferred → isNone (r .user) ≡ false → plan limit r x ≡ nearest limit (lowest maskBits (r .effective)) (r .turn)
+    pub preferred-plan : modeOf (r .mode) ≡ preferred → isEmpty (r .user) ≡ false → plan limit r x ≡ nearest limit (lowest mostNodes (r .effective)) (r .turn)
     unfolding planIn
     preferred-plan e u = own-plan ∙ rw (e, u)
 
@@ -97,45 +97,45 @@ module _ (n limit : ℕ) (r : Record) (x : ℕ) where
     unfolding planIn interleaved
     interleave-plan e q = own-plan ∙ rw (e, q)
 
-  module _ (few : n ≤ maskBits) (h : Formed n r) (c : carries (modeOf (r .mode)) ≡ aMask) where
+  module _ (few : n ≤ mostNodes) (h : Formed n r) (c : carries (modeOf (r .mode)) ≡ aMask) where
     masks-fit : masksFit n r ≡ true
     unfolding dataFits
     masks-fit = both-true {a = masksFit n r} {b = eqb (r .len) 0} (rw c at (h .data-fits)) .0
 
     -- "and any mode with static and an empty effective set": then near(CPU's node), as with preferred and an empty user mask
-    pub none-effective : r .user < 2 ^ maskBits → r .effective ≡ 0 → plan limit r x ≡ nearest limit x (r .turn)
+    pub none-effective : r .user < 2 ^ mostNodes → r .effective ≡ 0 → plan limit r x ≡ nearest limit x (r .turn)
     unfolding plan modeInForce planIn masksFit noMasks effectiveFits
-    none-effective word z = go (isNone (r .user)) refl masks-fit
+    none-effective word z = go (isEmpty (r .user)) refl masks-fit
       where
         by-flag : (f : Flag) → flagOf (r .flag) ≡ f → 0 < r .user → effectiveFits n r f ≡ true → plan limit r x ≡ nearest limit x (r .turn)
         by-flag plain e p t =
-            let q = both-true {a = below n (r .user) && not (isNone (r .effective))} {b = within (r .effective) (r .allowed)} t .0 in
-            absurd (false≢true (rw z at (both-true {a = below n (r .user)} {b = not (isNone (r .effective))} q .1)))
+            let q = both-true {a = below n (r .user) && not (isEmpty (r .effective))} {b = within (r .effective) (r .allowed)} t .0 in
+            absurd (false≢true (rw z at (both-true {a = below n (r .user)} {b = not (isEmpty (r .effective))} q .1)))
         by-flag static e p t = rw (flag-static (r .flag) e, z)
         by-flag relative e p t =
-            let q : r .effective ≡ folded maskBits (r .user) (r .allowed) = eqb-true (r .effective) (folded maskBits (r .user) (r .allowed)) t in
-            let low : r .allowed < 2 ^ maskBits = lt-of-lt-of-le (h .allowed-below) (pow-mono few) in
-            absurd (omega (arith, folded-pos maskBits (r .user) (r .allowed) (some-allowed n r h c) low p word))
+            let q : r .effective ≡ folded mostNodes (r .user) (r .allowed) = eqb-true (r .effective) (folded mostNodes (r .user) (r .allowed)) t in
+            let low : r .allowed < 2 ^ mostNodes = lt-of-lt-of-le (h .allowed-below) (pow-mono few) in
+            absurd (omega (arith, folded-pos mostNodes (r .user) (r .allowed) (some-allowed n r h c) low p word))
         by-flag unknownFlag e p t = absurd (false≢true t)
 
-        go : (b : Bool) → isNone (r .user) ≡ b → cond b (eqb (r .mode) 1 && noMasks r) (effectiveFits n r (flagOf (r .flag))) ≡ true
+        go : (b : Bool) → isEmpty (r .user) ≡ b → cond b (eqb (r .mode) 1 && noMasks r) (effectiveFits n r (flagOf (r .flag))) ≡ true
             → plan limit r x ≡ nearest limit x (r .turn)
         go true e t =
             let q = both-true {a = eqb (r .mode) 1} {b = noMasks r} t in
-            let f = both-true {a = eqb (r .flag) 0 && isNone (r .user)} {b = isNone (r .effective)} (q .1) .0 in
-            let flag : r .flag ≡ 0 = eqb-true (r .flag) 0 (both-true {a = eqb (r .flag) 0} {b = isNone (r .user)} f .0) in
+            let f = both-true {a = eqb (r .flag) 0 && isEmpty (r .user)} {b = isEmpty (r .effective)} (q .1) .0 in
+            let flag : r .flag ≡ 0 = eqb-true (r .flag) 0 (both-true {a = eqb (r .flag) 0} {b = isEmpty (r .user)} f .0) in
             rw (flag, eqb-true (r .mode) 1 (q .0), eqb-true (r .user) 0 e)
         go false e t = by-flag (flagOf (r .flag)) refl (omega (arith, eqb-false (r .user) 0 e)) t
 
     -- a record with an effective set has a user mask
-    pub some-user : (r .effective ≡ 0 → ⊥) → isNone (r .user) ≡ false
+    pub some-user : (r .effective ≡ 0 → ⊥) → isEmpty (r .user) ≡ false
     unfolding masksFit noMasks
-    some-user d = go (isNone (r .user)) masks-fit
+    some-user d = go (isEmpty (r .user)) masks-fit
       where
         go : (b : Bool) → cond b (eqb (r .mode) 1 && noMasks r) (effectiveFits n r (flagOf (r .flag))) ≡ true → b ≡ false
         go true t =
             let q = both-true {a = eqb (r .mode) 1} {b = noMasks r} t .1 in
-            absurd (d (eqb-true (r .effective) 0 (both-true {a = eqb (r .flag) 0 && isNone (r .user)} {b = isNone (r .effective)} q .1)))
+            absurd (d (eqb-true (r .effective) 0 (both-true {a = eqb (r .flag) 0 && isEmpty (r .user)} {b = isEmpty (r .effective)} q .1)))
         go false t = refl
 
   -- a list mode is in force: its flag is 0

@@ -1,13 +1,16 @@
 -- Document 01, "The first node in the order with a free page grants its lowest free page": what a search takes, and the page table after it.
-use Prim.Native.Nat.{ℕ, _+_, _*_, _^_, _≤_, _<_}
+use Prim.Native.Nat.{ℕ, _+_, _≤_, _<_}
 use mathlib.Core.Path.{_≡_}
-use mathlib.Core.List.{List, [], _∷_}
+use mathlib.Core.Bool.{true}
+use mathlib.Core.List.{List}
 use mathlib.Core.Option.{Option, none, some}
-use lib.ListN.{length, drop, set}
-use Rattle.rules.specs.Basics.{keep, sum}
-use Rattle.rules.specs.Masks.{maskBits, has}
+use lib.ListN.{length, set}
+use Rattle.rules.specs.Basics.{sum}
+use Rattle.rules.specs.Machine.{distancesOk}
+use Rattle.rules.specs.Masks.{mostNodes}
 use Rattle.rules.specs.Records.{Record, Turn, mostJobs}
-use Rattle.rules.specs.SearchOrder.{Try, near, pickPage, chosen}
+use Rattle.rules.specs.SearchOrder.{Try, pickPage, chosen}
+use Rattle.machine.specs.Tables.{Starts}
 use Rattle.records.specs.Jobs.{turnOf}
 use Rattle.placement.specs.Plans.{Plannable}
 use Rattle.placement.specs.declared.grant.Grant.{Grant}
@@ -39,25 +42,16 @@ pub record Granted (counts ledger : List ℕ) (j : ℕ) (ts : List Try) (grant :
   pub answer : takenOf grant ≡ taken counts ledger j (chosen counts ledger ts)
   pub table : after ≡ marked ledger (takenOf grant) j
 
--- "then the other allowed nodes at distance below 255 in row x ..": near(x) after x
-unfoldable pub beyond : ℕ → List ℕ → ℕ → ℕ → List ℕ
-beyond n distances set x = drop (length (keep (has set) (x ∷ []))) (near n distances set x)
-
--- What a grant may count on: page counts in order, a page table that has the pages, and one of the jobs.
-pub record Ready (counts ledger : List ℕ) (j : ℕ) : Type 0 where
-  pub few : length counts ≤ maskBits
+-- What a grant may count on: page counts in order, where each node's pages start, a page table that has them, and one of the jobs.
+pub record Ready (counts starts ledger : List ℕ) (j : ℕ) : Type 0 where
+  pub few : length counts ≤ mostNodes
   pub pages : sum counts ≤ 1048576
+  pub begin : Starts counts starts
   pub fits : sum counts ≤ length ledger
   pub job : j < mostJobs
 
--- What near(x) may count on: a distance table of n nodes, a set of them, and x one of them.
-pub record Nearable (n : ℕ) (distances : List ℕ) (set x : ℕ) : Type 0 where
-  pub square : length distances ≡ n * n
-  pub set-below : set < 2 ^ n
-  pub from-node : x < n
-
 -- What a request's search may count on.
-pub record Searchable (counts distances ledger : List ℕ) (limit : ℕ) (r : Record) (x j : ℕ) : Type 0 where
-  pub ready : Ready counts ledger j
-  pub square : length distances ≡ length counts * length counts
+pub record Searchable (counts starts distances ledger : List ℕ) (limit : ℕ) (r : Record) (x j : ℕ) : Type 0 where
+  pub ready : Ready counts starts ledger j
+  pub table : distancesOk (length counts) distances ≡ true
   pub plannable : Plannable (length counts) limit r x

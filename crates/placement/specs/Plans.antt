@@ -5,7 +5,7 @@ use mathlib.Core.Bool.{Bool, true, cond}
 use mathlib.Core.List.{List, [], _∷_, _++_, map}
 use lib.ListN.{getD}
 use Rattle.rules.specs.Basics.{around}
-use Rattle.rules.specs.Masks.{maskBits}
+use Rattle.rules.specs.Masks.{mostNodes}
 use Rattle.rules.specs.Records.{Record, Turn, lastIs, placesPerJob, wellFormed}
 use Rattle.rules.specs.SearchOrder.{Try, try, Plan as LawPlan, nearest, placed}
 use Rattle.records.specs.Jobs.{turnOf}
@@ -40,7 +40,7 @@ planOf places (Places w) = placed (walkTries w places)
 
 -- What a plan may count on: at most 64 nodes, the limit and x among them, and a record that is well formed on them.
 pub record Plannable (n limit : ℕ) (r : Record) (x : ℕ) : Type 0 where
-  pub few : n ≤ maskBits
+  pub few : n ≤ mostNodes
   pub limit-below : limit < 2 ^ n
   pub from-node : x < n
   pub formed : wellFormed n r ≡ true

@@ -4,20 +4,21 @@ ghost use mathlib.Core.List.{[], _∷_, map};
 ghost use mathlib.Core.Path.{_≡_};
 ghost use Prim.Native.Nat.{_+_, _%_, _≤_, _<_};
 ghost use lib.ListN.{length};
-ghost use Rattle.rules.specs.Basics.{keep};
-ghost use Rattle.rules.specs.Masks.{has};
 ghost use Rattle.rules.specs.Records.{placesPerJob};
 ghost use Rattle.rules.specs.SearchOrder.{try, near, tried, plan, order};
+ghost use Rattle.machine.specs.Listing.{Nearable};
 ghost use Rattle.records.specs.Jobs.{turnOf, jobOf};
-ghost use Rattle.placement.specs.Grants.{beyond, Ready, Nearable, Searchable, Granted};
+ghost use Rattle.placement.specs.Grants.{Ready, Searchable, Granted};
 ghost use Rattle.placement.specs.Plans.{leaves, earlyTries, roundTries, walkTries};
 use super::plan::Plan;
 use super::plan::Walk;
 use machine;
+use nodemask;
 use nodemask::Mask;
 use pages;
 use pages::Found;
 use records::job::Job;
+use rules::MOST_NODES;
 use rules::Node;
 use rules::PLACES_PER_JOB;
 use rules::Page;
@@ -30,13 +31,20 @@ pub enum Grant {
 }
 
 // Grants the lowest free page of one node: its part of the page table, lent on to the page picker.
-fn grant_node(counts: &[u32], pages: &mut [u8], node: Node, cursor: u8, job: u8) -> Grant
-    requires { ⌜ Ready (now counts) (now pages) job × (node .0 < length (now counts)) ⌝ }
+fn grant_node(
+    counts: &[u32],
+    starts: &[u32; MOST_NODES + 1],
+    pages: &mut [u8],
+    node: Node,
+    cursor: u8,
+    job: u8,
+) -> Grant
+    requires { ⌜ Ready (now counts) (now starts) (now pages) job × (node .0 < length (now counts)) ⌝ }
     ensures { λ r. ⌜ Granted (now (counts .entry)) (now (pages .entry)) job (try (turnOf cursor) (node .0) ∷ []) r (now (pages .exit)) ⌝ }
 {
-    let first = machine::first_page(counts, node);
-    let start = first.0 as usize;
     let n = node.0 as usize;
+    let first = Page(starts[n]);
+    let start = first.0 as usize;
     let end = start + (counts[n] as usize);
     let found = pages::pick(&mut pages[start..end], job + 1);
     match found {
@@ -48,18 +56,19 @@ fn grant_node(counts: &[u32], pages: &mut [u8], node: Node, cursor: u8, job: u8)
 // Grants by one node, if it is one of the machine's and in the limit; else it is passed over.
 fn grant_place(
     counts: &[u32],
+    starts: &[u32; MOST_NODES + 1],
     pages: &mut [u8],
     limit: Mask,
     node: Node,
     cursor: u8,
     job: u8,
 ) -> Grant
-    requires { ⌜ Ready (now counts) (now pages) job ⌝ }
+    requires { ⌜ Ready (now counts) (now starts) (now pages) job ⌝ }
     ensures { λ r. ⌜ Granted (now (counts .entry)) (now (pages .entry)) job (tried (length (now (counts .entry))) (limit .0) (try (turnOf cursor) (node .0) ∷ [])) r (now (pages .exit)) ⌝ }
 {
     if (node.0 as usize) < counts.len() {
         if limit.has(node) {
-            return grant_node(counts, pages, node, cursor, job);
+            return grant_node(counts, starts, pages, node, cursor, job);
         }
     }
     Grant::Nothing
@@ -67,19 +76,10 @@ fn grant_place(
 
 // ---- by near(x)
 
-// Where the nodes of near(x) other than x begin: x comes first, if it is in the set.
-fn others_from(set: Mask, x: Node) -> usize
-    ensures { λ r. ⌜ r ≡ length (keep (has (set .0)) (x .0 ∷ [])) ⌝ }
-{
-    if set.has(x) {
-        return 1;
-    }
-    0
-}
-
-// Grants by the nodes of near(x) other than x, in order.
-fn grant_others(
+// Grants by the nodes of near(x), in order: they are listed first.
+fn grant_listed(
     counts: &[u32],
+    starts: &[u32; MOST_NODES + 1],
     distances: &[u8],
     pages: &mut [u8],
     set: Mask,
@@ -87,13 +87,13 @@ fn grant_others(
     cursor: u8,
     job: u8,
 ) -> Grant
-    requires { ⌜ Ready (now counts) (now pages) job × Nearable (length (now counts)) (now distances) (set .0) (x .0) ⌝ }
-    ensures { λ r. ⌜ Granted (now (counts .entry)) (now (pages .entry)) job (map (try (turnOf cursor)) (beyond (length (now (counts .entry))) (now (distances .entry)) (set .0) (x .0))) r (now (pages .exit)) ⌝ }
+    requires { ⌜ Ready (now counts) (now starts) (now pages) job × Nearable (length (now counts)) (now distances) (set .0) (x .0) ⌝ }
+    ensures { λ r. ⌜ Granted (now (counts .entry)) (now (pages .entry)) job (map (try (turnOf cursor)) (near (length (now (counts .entry))) (now (distances .entry)) (set .0) (x .0))) r (now (pages .exit)) ⌝ }
 {
     let order = machine::near(counts.len(), distances, set, x);
-    let mut i = others_from(set, x);
+    let mut i = 0;
     while i < order.len {
-        let found = grant_node(counts, pages, Node(order.nodes[i]), cursor, job);
+        let found = grant_node(counts, starts, pages, Node(order.nodes[i]), cursor, job);
         if let Grant::Taken(node, page, left) = found {
             return Grant::Taken(node, page, left);
         }
@@ -102,9 +102,10 @@ fn grant_others(
     Grant::Nothing
 }
 
-// Grants by near(x): x at once; the list of the others is built only where x is full or not in the set.
+// Grants by near(x): its first node is tried at once, and the others are listed only where that one is full.
 fn grant_near(
     counts: &[u32],
+    starts: &[u32; MOST_NODES + 1],
     distances: &[u8],
     pages: &mut [u8],
     set: Mask,
@@ -112,13 +113,20 @@ fn grant_near(
     cursor: u8,
     job: u8,
 ) -> Grant
-    requires { ⌜ Ready (now counts) (now pages) job × Nearable (length (now counts)) (now distances) (set .0) (x .0) ⌝ }
+    requires { ⌜ Ready (now counts) (now starts) (now pages) job × Nearable (length (now counts)) (now distances) (set .0) (x .0) ⌝ }
     ensures { λ r. ⌜ Granted (now (counts .entry)) (now (pages .entry)) job (map (try (turnOf cursor)) (near (length (now (counts .entry))) (now (distances .entry)) (set .0) (x .0))) r (now (pages .exit)) ⌝ }
 {
-    let first = grant_place(counts, pages, set, x, cursor, job);
-    match first {
+    let first = machine::nearest(counts.len(), distances, set, x);
+    let nodemask::Found::At(node) = first else {
+        return Grant::Nothing;
+    };
+    let found = grant_node(counts, starts, pages, node, cursor, job);
+    match found {
         Grant::Taken(node, page, cursor) => Grant::Taken(node, page, cursor),
-        Grant::Nothing => grant_others(counts, distances, pages, set, x, cursor, job),
+        Grant::Nothing => {
+            let others = set.without(node);
+            grant_listed(counts, starts, distances, pages, others, x, cursor, job)
+        }
     }
 }
 
@@ -149,13 +157,14 @@ fn cursor_after(walk: Walk, place: Place) -> u8
 // Grants by the places from the cursor on, once round.
 fn grant_round(
     counts: &[u32],
+    starts: &[u32; MOST_NODES + 1],
     pages: &mut [u8],
     limit: Mask,
     places: [u8; PLACES_PER_JOB],
     walk: Walk,
     job: u8,
 ) -> Grant
-    requires { ⌜ Ready (now counts) (now pages) job × (walk .len ≤ placesPerJob) × (walk .cursor ≤ walk .len) ⌝ }
+    requires { ⌜ Ready (now counts) (now starts) (now pages) job × (walk .len ≤ placesPerJob) × (walk .cursor ≤ walk .len) ⌝ }
     ensures { λ r. ⌜ Granted (now (counts .entry)) (now (pages .entry)) job (tried (length (now (counts .entry))) (limit .0) (roundTries (walk .moves) places (turnOf (walk .cursor)) (walk .len) (walk .cursor) (walk .len))) r (now (pages .exit)) ⌝ }
 {
     let mut position = walk.cursor;
@@ -163,7 +172,15 @@ fn grant_round(
     while 0 < left {
         let place = place_at(position, walk.len);
         let node = Node(places[place.0 as usize]);
-        let found = grant_place(counts, pages, limit, node, cursor_after(walk, place), job);
+        let found = grant_place(
+            counts,
+            starts,
+            pages,
+            limit,
+            node,
+            cursor_after(walk, place),
+            job,
+        );
         if let Grant::Taken(node, page, cursor) = found {
             return Grant::Taken(node, page, cursor);
         }
@@ -176,17 +193,26 @@ fn grant_round(
 // Grants by place 0 before the round, where the walk is early.
 fn grant_early(
     counts: &[u32],
+    starts: &[u32; MOST_NODES + 1],
     pages: &mut [u8],
     limit: Mask,
     places: [u8; PLACES_PER_JOB],
     walk: Walk,
     job: u8,
 ) -> Grant
-    requires { ⌜ Ready (now counts) (now pages) job ⌝ }
+    requires { ⌜ Ready (now counts) (now starts) (now pages) job ⌝ }
     ensures { λ r. ⌜ Granted (now (counts .entry)) (now (pages .entry)) job (tried (length (now (counts .entry))) (limit .0) (earlyTries walk places)) r (now (pages .exit)) ⌝ }
 {
     if walk.early {
-        return grant_place(counts, pages, limit, Node(places[0]), walk.cursor, job);
+        return grant_place(
+            counts,
+            starts,
+            pages,
+            limit,
+            Node(places[0]),
+            walk.cursor,
+            job,
+        );
     }
     Grant::Nothing
 }
@@ -194,19 +220,20 @@ fn grant_early(
 // Grants by places: no order is built.
 fn grant_places(
     counts: &[u32],
+    starts: &[u32; MOST_NODES + 1],
     pages: &mut [u8],
     limit: Mask,
     places: [u8; PLACES_PER_JOB],
     walk: Walk,
     job: u8,
 ) -> Grant
-    requires { ⌜ Ready (now counts) (now pages) job × (walk .len ≤ placesPerJob) × (walk .cursor ≤ walk .len) ⌝ }
+    requires { ⌜ Ready (now counts) (now starts) (now pages) job × (walk .len ≤ placesPerJob) × (walk .cursor ≤ walk .len) ⌝ }
     ensures { λ r. ⌜ Granted (now (counts .entry)) (now (pages .entry)) job (tried (length (now (counts .entry))) (limit .0) (walkTries walk places)) r (now (pages .exit)) ⌝ }
 {
-    let first = grant_early(counts, pages, limit, places, walk, job);
+    let first = grant_early(counts, starts, pages, limit, places, walk, job);
     match first {
         Grant::Taken(node, page, cursor) => Grant::Taken(node, page, cursor),
-        Grant::Nothing => grant_round(counts, pages, limit, places, walk, job),
+        Grant::Nothing => grant_round(counts, starts, pages, limit, places, walk, job),
     }
 }
 
@@ -215,6 +242,7 @@ fn grant_places(
 // Grants a page to a well-formed job from a CPU on node x. `limit` is the set of nodes that the job may get.
 pub fn grant_page(
     counts: &[u32],
+    starts: &[u32; MOST_NODES + 1],
     distances: &[u8],
     pages: &mut [u8],
     limit: Mask,
@@ -222,15 +250,15 @@ pub fn grant_page(
     x: Node,
     job: u8,
 ) -> Grant
-    requires { ⌜ Searchable (now counts) (now distances) (now pages) (limit .0) (jobOf decoded) (x .0) job ⌝ }
+    requires { ⌜ Searchable (now counts) (now starts) (now distances) (now pages) (limit .0) (jobOf decoded) (x .0) job ⌝ }
     ensures { λ r. ⌜ Granted (now (counts .entry)) (now (pages .entry)) job (order (length (now (counts .entry))) (now (distances .entry)) (limit .0) (plan (limit .0) (jobOf decoded) (x .0))) r (now (pages .exit)) ⌝ }
 {
     let places = decoded.places;
     let plan = Plan::of(counts.len(), limit, decoded, x);
     match plan {
         Plan::Near(set, from, cursor) => {
-            grant_near(counts, distances, pages, set, from, cursor, job)
+            grant_near(counts, starts, distances, pages, set, from, cursor, job)
         }
-        Plan::Places(walk) => grant_places(counts, pages, limit, places, walk, job),
+        Plan::Places(walk) => grant_places(counts, starts, pages, limit, places, walk, job),
     }
 }

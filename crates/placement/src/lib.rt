@@ -2,15 +2,20 @@
 
 ghost use mathlib.Core.Bool.{true};
 ghost use mathlib.Core.Path.{_≡_};
-ghost use Rattle.rules.specs.Records.{recordAt};
-ghost use Rattle.rules.specs.Calls.{tablesOf, outcome, requestTablesOk, releaseTablesOk, admitted, onRequest, onRelease};
+ghost use lib.ListN.{length};
+ghost use Rattle.rules.specs.SearchOrder.{plan, order, chosen};
+ghost use Rattle.rules.specs.Calls.{tablesOf, outcome, applied, isJob, requestTablesOk, releaseTablesOk, admitted, serve, onRequest, onRelease};
 ghost use Rattle.rules.specs.Answers.{answerOf};
-ghost use Rattle.machine.specs.Tables.{machineOf};
+ghost use Rattle.machine.specs.Tables.{machineOf, Starts};
+ghost use Rattle.records.specs.Jobs.{recordOf};
 ghost use Rattle.placement.specs.Admissions.{admissionOf};
+ghost use Rattle.placement.specs.Grants.{Searchable};
 use grant::Grant;
 use machine;
+use records::record::Record;
 use records::table;
 use rules::Answer;
+use rules::MOST_NODES;
 use rules::Node;
 use rules::Page;
 use rules::Refusal;
@@ -48,9 +53,9 @@ pub fn release_tables_ok(counts: &[u32], pages: &[u8], jobs: &[u64]) -> bool
 
 // ---- request
 
-// What a request's tests before the search come to.
+// What a request's tests before the search come to: the record that it goes by, or a refusal.
 pub enum Admission {
-    Passed,
+    Passed(Record),
     Refused(Refusal),
 }
 
@@ -65,7 +70,7 @@ pub fn admit(
     cpu: usize,
 ) -> Admission
     requires { ⌜ requestTablesOk (machineOf (now counts) (now cpus) (now distances)) (tablesOf (now pages) (now jobs)) ≡ true ⌝ }
-    ensures { λ r. ⌜ admissionOf r (recordAt (now (jobs .entry)) job) ≡ admitted (machineOf (now (counts .entry)) (now (cpus .entry)) (now (distances .entry))) (tablesOf (now (pages .entry)) (now (jobs .entry))) job cpu ⌝ }
+    ensures { λ r. ⌜ admissionOf r ≡ admitted (machineOf (now (counts .entry)) (now (cpus .entry)) (now (distances .entry))) (tablesOf (now (pages .entry)) (now (jobs .entry))) job cpu ⌝ }
 {
     let known = table::has_job(jobs.len(), job);
     if !known {
@@ -78,12 +83,48 @@ pub fn admit(
     if !record.well_formed(counts.len()) {
         return Admission::Refused(Refusal::MalformedRecord);
     }
-    Admission::Passed
+    Admission::Passed(record)
+}
+
+// "The first node in the order with a free page grants": a request that has passed its tests, from a CPU on node x.
+fn serve(
+    counts: &[u32],
+    starts: &[u32; MOST_NODES + 1],
+    distances: &[u8],
+    pages: &mut [u8],
+    jobs: &mut [u64],
+    job: usize,
+    loaded: Record,
+    x: Node,
+) -> Answer
+    requires { ⌜ Searchable (now counts) (now starts) (now distances) (now pages) (loaded .allowed .0) (recordOf loaded) (x .0) job × (isJob (now jobs) job ≡ true) ⌝ }
+    ensures { λ r. ⌜ outcome (answerOf r) (tablesOf (now (pages .exit)) (now (jobs .exit))) ≡ applied (tablesOf (now (pages .entry)) (now (jobs .entry))) (serve (now (counts .entry)) (tablesOf (now (pages .entry)) (now (jobs .entry))) job (chosen (now (counts .entry)) (now (pages .entry)) (order (length (now (counts .entry))) (now (distances .entry)) (loaded .allowed .0) (plan (loaded .allowed .0) (recordOf loaded) (x .0))))) ⌝ }
+{
+    let limit = loaded.allowed;
+    let decoded = loaded.job();
+    let grant = grant::grant_page(
+        counts,
+        starts,
+        distances,
+        pages,
+        limit,
+        decoded,
+        x,
+        job as u8,
+    );
+    match grant {
+        Grant::Taken(node, page, cursor) => {
+            table::store_cursor(jobs, job, cursor);
+            Answer::Granted(node, page)
+        }
+        Grant::Nothing => Answer::Refused(Refusal::NoRoom),
+    }
 }
 
 // A request on tables that are in order.
 pub fn request_at(
     counts: &[u32],
+    starts: &[u32; MOST_NODES + 1],
     cpus: &[u8],
     distances: &[u8],
     pages: &mut [u8],
@@ -91,23 +132,16 @@ pub fn request_at(
     job: usize,
     cpu: usize,
 ) -> Answer
-    requires { ⌜ requestTablesOk (machineOf (now counts) (now cpus) (now distances)) (tablesOf (now pages) (now jobs)) ≡ true ⌝ }
+    requires { ⌜ (requestTablesOk (machineOf (now counts) (now cpus) (now distances)) (tablesOf (now pages) (now jobs)) ≡ true) × Starts (now counts) (now starts) ⌝ }
     ensures { λ r. ⌜ outcome (answerOf r) (tablesOf (now (pages .exit)) (now (jobs .exit))) ≡ onRequest (machineOf (now (counts .entry)) (now (cpus .entry)) (now (distances .entry))) (tablesOf (now (pages .entry)) (now (jobs .entry))) job cpu ⌝ }
 {
     let admission = admit(counts, cpus, distances, pages, jobs, job, cpu);
-    if let Admission::Refused(why) = admission {
-        return Answer::Refused(why);
-    }
-    let record = table::load(jobs, job);
-    let limit = record.allowed;
-    let x = Node(cpus[cpu]);
-    let grant = grant::grant_page(counts, distances, pages, limit, record.job(), x, job as u8);
-    match grant {
-        Grant::Taken(node, page, cursor) => {
-            table::store_cursor(jobs, job, cursor);
-            Answer::Granted(node, page)
+    match admission {
+        Admission::Passed(record) => {
+            let x = Node(cpus[cpu]);
+            serve(counts, starts, distances, pages, jobs, job, record, x)
         }
-        Grant::Nothing => Answer::Refused(Refusal::NoRoom),
+        Admission::Refused(why) => Answer::Refused(why),
     }
 }
 
@@ -126,20 +160,29 @@ pub fn request(
     if !request_tables_ok(counts, cpus, distances, pages, jobs) {
         return Answer::Refused(Refusal::BadTables);
     }
-    request_at(counts, cpus, distances, pages, jobs, job, cpu)
+    let starts = machine::starts_of(counts);
+    request_at(counts, &starts, cpus, distances, pages, jobs, job, cpu)
 }
 
 // ---- release
 
 // A release on tables that are in order: one byte is written, after the last test.
-pub fn release_at(counts: &[u32], pages: &mut [u8], jobs: &[u64], job: usize, page: usize) -> Answer
-    requires { ⌜ releaseTablesOk (now counts) (tablesOf (now pages) (now jobs)) ≡ true ⌝ }
+pub fn release_at(
+    counts: &[u32],
+    starts: &[u32; MOST_NODES + 1],
+    pages: &mut [u8],
+    jobs: &[u64],
+    job: usize,
+    page: usize,
+) -> Answer
+    requires { ⌜ (releaseTablesOk (now counts) (tablesOf (now pages) (now jobs)) ≡ true) × Starts (now counts) (now starts) ⌝ }
     ensures { λ r. ⌜ outcome (answerOf r) (tablesOf (now (pages .exit)) (now (jobs .entry))) ≡ onRelease (now (counts .entry)) (tablesOf (now (pages .entry)) (now (jobs .entry))) job page ⌝ }
 {
     if !table::has_job(jobs.len(), job) {
         return Answer::Refused(Refusal::NoSuchJob);
     }
-    if page >= machine::total_pages(counts) {
+    let total = starts[counts.len()] as usize;
+    if page >= total {
         return Answer::Refused(Refusal::NotHeld);
     }
     let holder = pages[page];
@@ -148,7 +191,7 @@ pub fn release_at(counts: &[u32], pages: &mut [u8], jobs: &[u64], job: usize, pa
     }
     pages[page] = 0;
     let free = Page(page as u32);
-    Answer::Released(machine::node_of_page(counts, free), free)
+    Answer::Released(machine::node_of_page(counts, starts, free), free)
 }
 
 // Release: a page that the job holds becomes free.
@@ -158,5 +201,6 @@ pub fn release(counts: &[u32], pages: &mut [u8], jobs: &[u64], job: usize, page:
     if !release_tables_ok(counts, pages, jobs) {
         return Answer::Refused(Refusal::BadTables);
     }
-    release_at(counts, pages, jobs, job, page)
+    let starts = machine::starts_of(counts);
+    release_at(counts, &starts, pages, jobs, job, page)
 }

@@ -58,10 +58,10 @@ impl Plan {
                 if effective.is_empty() {
                     return Plan::Near(limit, x, 0);
                 }
-                Plan::Near(limit.and(effective), x, 0)
+                Plan::Near(limit.both(effective), x, 0)
             }
             Mode::Interleave(_, _, effective, cursor) => {
-                let target = effective.next(cursor);
+                let target = effective.target(cursor);
                 match target {
                     Found::At(node) => Plan::Near(limit, node, node.0 + 1),
                     Found::Nothing => Plan::Near(limit, x, cursor),

@@ -9,6 +9,7 @@ ghost use Rattle.placer.specs.Parts.{AtMost};
 use journal::answer;
 use journal::opening;
 use journal::opening::LONGEST;
+use part::Rest;
 use rules::Decision;
 use stdio::Got;
 
@@ -45,13 +46,30 @@ fn read_opening(bytes: &mut [u8]) -> Got
     Got::Bytes(done)
 }
 
-// The records after a good machine record, on free pages and fresh jobs.
+// The records after a good machine record, on free pages and fresh jobs, part by part until the run ends.
 fn answer_records(bytes: &[u8])
     requires { ⌜ opening (now bytes) ≡ accept (machineSize (now bytes)) ⌝ }
 {
     let mut pages = journal::free_pages();
     let mut jobs = journal::fresh_jobs();
-    part::answer_parts(bytes, &mut pages, &mut jobs);
+    let mut input = io::large_buffer();
+    let mut output = part::answer_buffer();
+    let mut kept = 0;
+    let mut turns = u64::MAX;
+    while turns > 0 {
+        let Rest::Kept(n) = part::answer_part(
+            bytes,
+            &mut pages,
+            &mut jobs,
+            &mut input,
+            &mut output,
+            kept,
+        ) else {
+            return;
+        };
+        kept = n;
+        turns -= 1;
+    }
 }
 
 // A read that fails ends the run, and is never answered as a damaged journal.

@@ -5,13 +5,15 @@ ghost use mathlib.Core.List.{_++_};
 ghost use Prim.Native.Nat.{_+_, _≤_};
 ghost use lib.ListN.{length, take, drop};
 ghost use Rattle.rules.specs.Calls.{tablesOf};
+ghost use Rattle.rules.specs.Journal.{machineIn};
 ghost use Rattle.journal.specs.Opening.{Opened};
-ghost use Rattle.placer.specs.Parts.{AtMost, KeptAtMost};
+ghost use Rattle.journal.specs.Parts.{onPart};
+ghost use Rattle.placer.specs.Parts.{Answered, Turn};
 use super::stdio;
 use super::stdio::Got;
-use journal::answer;
+use journal::answer::ANSWER_SIZE;
+use journal::record::SHORTEST;
 use journal::run;
-use rules::Refusal;
 
 // What a part leaves: so many bytes of a record that has not arrived in full, or the end of the run.
 pub enum Rest {
@@ -20,10 +22,10 @@ pub enum Rest {
 }
 
 // Room for an answer to each record that the input has room for, and one more, in zeros.
-fn answer_buffer() -> [u8; 24588]
+pub fn answer_buffer() -> [u8; ANSWER_SIZE * (65536 / SHORTEST + 1)]
     ensures { λ r. ⌜ 24588 ≡ length r ⌝ }
 {
-    [0; 24588]
+    [0; ANSWER_SIZE * (65536 / SHORTEST + 1)]
 }
 
 // Moves the n bytes from a place on to the front.
@@ -38,40 +40,33 @@ fn keep(bytes: &mut [u8], from: usize, n: usize)
     }
 }
 
-// The end of input: "The end of input after a whole record ends the run without an answer", a "short record .. answers .. refusal 13".
-fn answer_end(kept: usize) {
-    if kept > 0 {
-        let fault = answer::fault(Refusal::DamagedJournal);
-        stdio::write_all(&fault);
-    }
-}
-
-// Answers the whole records among the bytes that are there, and moves the others to the front.
-fn answer_whole(
+// Answers the records among the bytes that are there, and moves the others to the front. Where the input has ended, what is left is a
+// "short record .. answers .. refusal 13".
+fn answer_there(
     opening: &[u8],
     pages: &mut [u8],
     jobs: &mut [u64],
     input: &mut [u8],
     output: &mut [u8],
     there: usize,
+    ended: bool,
 ) -> Rest
-    requires { ⌜ Opened (now opening) (tablesOf (now pages) (now jobs)) × (there ≤ length (now input)) ⌝ }
-    ensures { λ r. ⌜ KeptAtMost (length (now (input .entry))) r ⌝ }
+    requires { ⌜ Opened (now opening) (tablesOf (now pages) (now jobs)) × (there ≤ length (now input)) × (65536 ≡ length (now input)) × (24588 ≡ length (now output)) ⌝ }
+    ensures { λ r. ⌜ Answered (onPart (machineIn (now (opening .entry))) (tablesOf (now (pages .entry)) (now (jobs .entry))) (take there (now (input .entry))) ended (now (output .entry))) (take there (now (input .entry))) (tablesOf (now (pages .exit)) (now (jobs .exit))) (now (input .exit)) (now (output .exit)) r ⌝ }
 {
-    let part = run::run_part(opening, pages, jobs, &input[..there], output);
+    let part = run::run_part(opening, pages, jobs, &input[..there], ended, output);
     let used = part.read;
     let written = part.written;
-    let told = stdio::write_all(&output[..written]);
+    let sent = stdio::write_all(&output[..written]);
     keep(input, used, there - used);
-    if told & part.more {
-        Rest::Kept(there - used)
-    } else {
-        Rest::Ended
+    if (sent == written) & part.more & !ended {
+        return Rest::Kept(there - used);
     }
+    Rest::Ended
 }
 
 // Reads once, after the bytes that were kept, and answers what is there.
-fn answer_part(
+pub fn answer_part(
     opening: &[u8],
     pages: &mut [u8],
     jobs: &mut [u64],
@@ -79,33 +74,15 @@ fn answer_part(
     output: &mut [u8],
     kept: usize,
 ) -> Rest
-    requires { ⌜ Opened (now opening) (tablesOf (now pages) (now jobs)) × (kept ≤ length (now input)) ⌝ }
-    ensures { λ r. ⌜ KeptAtMost (length (now (input .entry))) r ⌝ }
+    requires { ⌜ Opened (now opening) (tablesOf (now pages) (now jobs)) × (kept ≤ length (now input)) × (65536 ≡ length (now input)) × (24588 ≡ length (now output)) ⌝ }
+    ensures { λ r. ⌜ Turn (machineIn (now (opening .entry))) (tablesOf (now (pages .entry)) (now (jobs .entry))) (take kept (now (input .entry))) (now (output .entry)) (tablesOf (now (pages .exit)) (now (jobs .exit))) (now (input .exit)) (now (output .exit)) r ⌝ }
 {
     let got = stdio::read_some(&mut input[kept..]);
     match got {
-        Got::Bytes(came) => answer_whole(opening, pages, jobs, input, output, kept + came),
-        Got::End => {
-            answer_end(kept);
-            Rest::Ended
+        Got::Bytes(came) => {
+            answer_there(opening, pages, jobs, input, output, kept + came, false)
         }
+        Got::End => answer_there(opening, pages, jobs, input, output, kept, true),
         Got::Failed => Rest::Ended,
-    }
-}
-
-// All parts, until the run ends.
-pub fn answer_parts(opening: &[u8], pages: &mut [u8], jobs: &mut [u64])
-    requires { ⌜ Opened (now opening) (tablesOf (now pages) (now jobs)) ⌝ }
-{
-    let mut input = io::large_buffer();
-    let mut output = answer_buffer();
-    let mut kept = 0;
-    let mut turns = u64::MAX;
-    while turns > 0 {
-        let Rest::Kept(n) = answer_part(opening, pages, jobs, &mut input, &mut output, kept) else {
-            return;
-        };
-        kept = n;
-        turns -= 1;
     }
 }

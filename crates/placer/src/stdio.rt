@@ -1,6 +1,7 @@
 // Standard input and output. A call that a signal interrupted is tried again; one that fails is said on standard error.
 // A proved loop has to end, and nothing says that signals do, or the input: such loops count down from a number that no run uses up.
 
+ghost use Prim.Native.Nat.{_≤_};
 ghost use lib.ListN.{length};
 ghost use Rattle.placer.specs.Parts.{AtMost};
 use libc::EINTR;
@@ -34,8 +35,10 @@ pub fn read_some(bytes: &mut [u8]) -> Got
     Got::Bytes(io::count(got, bytes))
 }
 
-// Writes all the bytes. Did that succeed?
-pub fn write_all(bytes: &[u8]) -> bool {
+// Writes the bytes, and answers how many it wrote: all of them, unless a write failed.
+pub fn write_all(bytes: &[u8]) -> usize
+    ensures { λ r. ⌜ r ≤ length (now (bytes .entry)) ⌝ }
+{
     let mut turns = u64::MAX;
     let mut done = 0;
     while turns > 0 && done < bytes.len() {
@@ -43,10 +46,10 @@ pub fn write_all(bytes: &[u8]) -> bool {
         let put = libc::write(STDOUT_FILENO, rest);
         if put <= 0 && !interrupted(put) {
             os::fail(b"placer: standard output");
-            return false;
+            return done;
         }
         done += io::count(put, rest);
         turns -= 1;
     }
-    done == bytes.len()
+    done
 }

@@ -6,7 +6,7 @@ use mathlib.Core.Bool.{true, not, _&&_}
 use mathlib.Core.List.{List}
 use native.Mathlib.Omega.{arith}
 use lib.ListN.{length}
-use Rattle.rules.specs.Masks.{isNone, below}
+use Rattle.rules.specs.Masks.{isEmpty, below}
 use Rattle.rules.specs.Records.{Policy, Record, carries, modeOf, flagOf, modeKnown, flagKnown, recordAt, wellFormed, installed, rebound}
 use Rattle.rules.specs.Decisions.{Decision, accept, unless}
 use Rattle.rules.specs.Calls.{Change, storing, isJob, recordTablesOk, flagFits, policyKnown, policyFits, rebindFits, installDecision, rebindDecision}
@@ -19,7 +19,7 @@ use Rattle.records.specs.Jobs.{asked, Asks}
 abbrev pub installTests : ℕ → ℕ → Record → Policy → Decision Change
 installTests n j r p =
     unless (policyKnown p) 5
-    (unless (not (isNone (r .allowed))) 7
+    (unless (not (isEmpty (r .allowed))) 7
     (unless (policyFits (carries (modeOf (p .mode))) n (r .allowed) p) 6
     (accept (storing j (installed r p)))))
 
@@ -27,7 +27,7 @@ installTests n j r p =
 abbrev pub rebindTests : ℕ → ℕ → Record → ℕ → Decision Change
 rebindTests n j r allowed =
     unless (below n allowed) 6
-    (unless (not (isNone allowed)) 7
+    (unless (not (isEmpty allowed)) 7
     (unless (rebindFits (rebound r allowed)) 9
     (accept (storing j (rebound r allowed)))))
 

@@ -1,18 +1,24 @@
 -- What shifts and masks do to the words of a record.
 -- Assumes nothing.
-use Prim.Native.Nat.{ℕ, _+_, _*_, _/_, _%_, _^_, _≤_, _<_}
+use Prim.Native.Nat.{ℕ, zero, suc, _+_, _-_, _*_, _/_, _%_, _^_, _≤_, _<_}
 use mathlib.Core.Path.{_≡_, sym, ap, ap₂, _∙_}
+use mathlib.Core.Bool.{true, _&&_, and-assoc, and-true}
 use mathlib.Core.Logic.{inr}
-use mathlib.Core.List.{List, [], _∷_, _++_}
-use native.Mathlib.Nat.{mod-eq-of-lt, lt-of-lt-of-le, zero-add, suc-add, le-refl}
+use mathlib.Core.List.{List, [], _∷_, _++_, append-nil}
+use native.Mathlib.Nat.{mod-eq-of-lt, lt-of-lt-of-le, zero-add, suc-add, le-refl, div-one}
 use native.Mathlib.Numerals.{add-one}
 use native.Mathlib.Omega.{arith}
+use borrow.Author.Tests.{eqb-true, eq-eqb}
 use lib.Bits.{bitAnd, bitOr, and-mask, or-shifted, or-shifted-r}
-use lib.ListN.{length, getD, take, drop, set, replicate, length-take, length-drop, length-set}
-use lib.Pow.{pow-mono}
-use lib.Seq.{drop-cons, getD-drop, getD-take, set-append-left, take-at}
-use Rattle.rules.specs.Records.{bytesOf, fromBytes}
+use lib.Dec.{eqb}
+use lib.ListN.{length, getD, take, drop, set, replicate, length-take, length-drop, length-set, length-append, drop-of-length-le}
+use lib.Pow.{pow-mono, shr-lt, shr-shr}
+use lib.Seq.{drop-cons, getD-drop, getD-take, set-append-left, take-at, take-all, drop-append-add}
+use Rattle.rules.specs.Basics.{all}
+use Rattle.rules.specs.Records.{placesPerJob, bytesOf, fromBytes}
 use Rattle.rules.proofs.Bytes.{AreBytes, bytes-length, bytes-at, from-bytes-lt, take-bytes, drop-bytes}
+use Rattle.rules.proofs.Lists.{both-true, both-hold, same-test}
+use Rattle.rules.proofs.Records.{places-again}
 use Rattle.records.proofs.Filled.{filled, fill-length, fill-step, fill-end}
 
 -- a shift and a mask read a byte
@@ -80,3 +86,57 @@ pack-step places from i j word bytes l f s h e =
     let low : fromBytes (drop i xs) < 2 ^ 56 =
     lt-of-lt-of-le (from-bytes-lt (drop i xs) rest) (pow-mono {i = 8 * length (drop i xs)} {j = 56} (simp length-drop (omega arith))) in
     next-byte word (getD places (from + j) 0) (rw e low) (bytes (from + j)) ∙ rw (drop-cons xs j 0 inside, at, e, s, add-one)
+
+-- sixteen places packed into two words are the places of these words
+pub packed : (places : List ℕ) (low high : ℕ) → length places ≡ placesPerJob → AreBytes places
+    → low ≡ fromBytes (take 8 places) → high ≡ fromBytes (take 8 (drop 8 places)) → bytesOf 8 low ++ bytesOf 8 high ≡ places
+packed places low high l bytes e f =
+    let few : length (drop 8 places) ≤ 8 = simp length-drop (omega arith) in
+    rw (e, f, take-all 8 (drop 8 places) few) (places-again places l bytes)
+
+-- ---- the places from one on
+
+-- a number is zero exactly when its lowest byte is and what stands above it
+zero-digit : (w : ℕ) → (eqb 0 (w % 256) && eqb (w / 256) 0) ≡ eqb w 0
+zero-digit w =
+    same-test
+    (λ t. let z = both-true {a = eqb 0 (w % 256)} t in eq-eqb w 0 (omega (arith, eqb-true 0 (w % 256) (z .0), eqb-true (w / 256) 0 (z .1))))
+    (λ t. let z = eqb-true w 0 t in both-hold (eq-eqb 0 (w % 256) (omega arith)) (eq-eqb (w / 256) 0 (omega arith)))
+
+-- a number without its lowest byte takes a byte less
+upper : (m : ℕ) {w : ℕ} → w < 2 ^ (8 * suc m) → w / 256 < 2 ^ (8 * m)
+upper m h = let e : 8 * suc m ≡ 8 * m + 8 = omega arith in shr-lt (8 * m) 8 (rw e at h)
+
+-- the bytes of w from byte k on, with others after them, are zero exactly when w without its k lowest bytes is and the others are
+zero-bytes : (m k w : ℕ) (others : List ℕ) → w < 2 ^ (8 * m) → k ≤ m
+    → all (eqb 0) (drop k (bytesOf m w ++ others)) ≡ (eqb (w / 2 ^ (8 * k)) 0 && all (eqb 0) others)
+unfolding bytesOf all
+zero-bytes zero zero w others h l = let z : w ≡ 0 = omega arith in rw z
+zero-bytes zero (suc k) w others h l = absurd (omega arith)
+zero-bytes (suc m) zero w others h l =
+    rw (zero-bytes m 0 (w / 256) others (upper m h) (omega arith), div-one (w / 256), div-one w, ← and-assoc, zero-digit w)
+zero-bytes (suc m) (suc k) w others h l =
+    zero-bytes m k (w / 256) others (upper m h) (omega arith)
+    ∙ ap (λ (x : ℕ). eqb x 0 && all (eqb 0) others) (shr-shr w 8 (8 * k) ∙ ap (λ (e : ℕ). w / 2 ^ e) (omega arith))
+
+-- the places of a word from place k on are zero exactly when the word without its k lowest places is
+zero-word : (w k : ℕ) → w < 2 ^ 64 → k ≤ 8 → all (eqb 0) (drop k (bytesOf 8 w)) ≡ eqb (w / 2 ^ (8 * k)) 0
+unfolding all
+zero-word w k h l = rw (append-nil, and-true) at (zero-bytes 8 k w [] h l)
+
+-- from a place of the low word on
+pub zero-low : (low high k : ℕ) → low < 2 ^ 64 → high < 2 ^ 64 → k < 8
+    → (eqb (low / 2 ^ (8 * k)) 0 && eqb high 0) ≡ all (eqb 0) (drop k (bytesOf 8 low ++ bytesOf 8 high))
+zero-low low high k hl hh h = rw (zero-bytes 8 k low (bytesOf 8 high) hl (omega arith), zero-word high 0 hh (omega arith), div-one high)
+
+-- from a place of the high word on
+pub zero-high : (low high k : ℕ) → high < 2 ^ 64 → 8 ≤ k → k < 16
+    → eqb (high / 2 ^ (8 * (k - 8))) 0 ≡ all (eqb 0) (drop k (bytesOf 8 low ++ bytesOf 8 high))
+zero-high low high k hh l h =
+    let seam : length (bytesOf 8 low) + (k - 8) ≡ k = rw (bytes-length 8 low) (omega arith) in
+    sym (zero-word high (k - 8) hh (omega arith)) ∙ ap (all (eqb 0)) (rw seam at (sym (drop-append-add (bytesOf 8 low) (bytesOf 8 high) (k - 8))))
+
+-- from past the last place on
+pub zero-past : (low high k : ℕ) → 16 ≤ k → true ≡ all (eqb 0) (drop k (bytesOf 8 low ++ bytesOf 8 high))
+unfolding all
+zero-past low high k l = rw (drop-of-length-le (bytesOf 8 low ++ bytesOf 8 high) {i = k} (simp (length-append, bytes-length) l))

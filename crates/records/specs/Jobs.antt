@@ -5,7 +5,7 @@ use mathlib.Core.List as Lists
 use mathlib.Core.List.{_++_}
 use lib.ListN.{length, take, replicate}
 use Rattle.rules.specs.Records.{Carries as Holds, nothing, aMask, aList, unknown, Cursor as CursorIs, noCursor, aNode, aPlace, Row as LawRow}
-use Rattle.rules.specs.Records.{placesPerJob, Policy as Asked, policy, Turn, Record as LawRecord}
+use Rattle.rules.specs.Records.{placesPerJob, bytesOf, Policy as Asked, policy, Turn, Record as LawRecord}
 use Rattle.nodemask.specs.declared.Mask.{Mask}
 use Rattle.records.specs.declared.record.Carries.{Carries}
 use Rattle.records.specs.declared.record.Carries.the-variants.{Nothing, AMask, AList, Unknown}
@@ -106,7 +106,7 @@ recordOf r = record {
   user = r .user .0;
   allowed = r .allowed .0;
   effective = r .effective .0;
-  bytes = r .places;
+  bytes = bytesOf 8 (r .low) ++ bytesOf 8 (r .high);
 }
 
 -- what goes by the mode, of a record

@@ -7,8 +7,10 @@ ghost use Prim.Native.Nat.{ℕ, _<_};
 ghost use Rattle.rules.specs.Records.{flagOf, fresh, flagKnown, wellFormed, effectiveAtInstall, rebound};
 ghost use Rattle.records.specs.Jobs.{flagNumber, carried, masks, carriedIn, carriedOf, recordWith, jobOf, recordOf};
 use super::record::Record;
+use super::words;
 use nodemask::Mask;
 use rules::PLACES_PER_JOB;
+use rules::Place;
 
 // "Flags: 0 none, 1 static, 2 relative"
 pub enum Flag {
@@ -64,8 +66,8 @@ impl Flag {
         ensures { λ r. ⌜ r .0 ≡ effectiveAtInstall (flagOf (flagNumber self)) (user .0) (allowed .0) ⌝ }
     {
         match self {
-            Flag::Plain => user.and(allowed),
-            Flag::Static => user.and(allowed),
+            Flag::Plain => user.both(allowed),
+            Flag::Static => user.both(allowed),
             Flag::Relative => user.folded(allowed),
         }
     }
@@ -77,7 +79,7 @@ impl Flag {
     {
         match self {
             Flag::Plain => effective.remapped(old, new),
-            Flag::Static => user.and(new),
+            Flag::Static => user.both(new),
             Flag::Relative => user.folded(new),
         }
     }
@@ -171,7 +173,8 @@ impl Job {
             user,
             allowed,
             effective,
-            places,
+            low: words::pack(places, Place(0)),
+            high: words::pack(places, Place(8)),
         }
     }
 

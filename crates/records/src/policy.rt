@@ -41,7 +41,7 @@ impl Policy {
         ensures { λ r. ⌜ ((ps : List ℕ) → r ≡ maskFits nodes (allowed .0) (asked self ps)) ⌝ }
     {
         let user = self.user;
-        (self.flag == 2) | (user.below(nodes) & (user.is_empty() | !user.and(allowed).is_empty()))
+        (self.flag == 2) | (user.below(nodes) & (user.is_empty() | !user.both(allowed).is_empty()))
     }
 
     // "bind or interleave with an empty mask; .. modes 4 to 6 with 0 or over 16 places"

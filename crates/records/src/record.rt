@@ -1,18 +1,20 @@
 // A job's record by its fields, the table "Mode | Carries", and document 01's "A record is well formed if ..".
 
 ghost use mathlib.Core.Bool.{true};
+ghost use mathlib.Core.List.{_++_};
 ghost use mathlib.Core.Logic.{_⊎_};
 ghost use mathlib.Core.Path.{_≡_};
 ghost use Prim.Native.Nat.{ℕ, _<_};
 ghost use lib.Dec.{eqb};
 ghost use lib.ListN.{drop};
 ghost use Rattle.rules.specs.Basics.{all};
-ghost use Rattle.rules.specs.Records.{Policy as Asked, rowOf, carries, modeOf, flagOf, unusedZero, allowedFits, cursorFits, noMasks, effectiveFits, masksFit, dataFits, wellFormed, installed};
+ghost use Rattle.rules.specs.Records.{Policy as Asked, bytesOf, rowOf, carries, modeOf, flagOf, unusedZero, allowedFits, cursorFits, noMasks, effectiveFits, masksFit, dataFits, wellFormed, installed};
 ghost use Rattle.records.specs.Jobs.{rowIn, jobOf, recordOf, Asks};
 use super::job::Flag;
 use super::job::Job;
 use super::job::Mode;
 use super::policy::Policy;
+use super::words;
 use nodemask::Mask;
 use rules::PLACES_PER_JOB;
 use rules::Place;
@@ -53,7 +55,7 @@ impl Row {
     }
 }
 
-// The fields of a job's words; `rest` is what word 0 holds above the cursor.
+// The fields of a job's words; `rest` is what word 0 holds above the cursor, `low` and `high` are words 4 and 5, sixteen places.
 pub struct Record {
     pub mode: u8,
     pub flag: u8,
@@ -63,20 +65,22 @@ pub struct Record {
     pub user: Mask,
     pub allowed: Mask,
     pub effective: Mask,
-    pub places: [u8; PLACES_PER_JOB],
+    pub low: u64,
+    pub high: u64,
 }
 
-// The places from one on are zero.
-fn zero_from(places: [u8; PLACES_PER_JOB], from: Place) -> bool
-    ensures { λ r. ⌜ r ≡ all (eqb 0) (drop (from .0) places) ⌝ }
+// The places of two words from one on are zero: those before it are shifted out.
+fn zero_from(low: u64, high: u64, from: Place) -> bool
+    ensures { λ r. ⌜ r ≡ all (eqb 0) (drop (from .0) (bytesOf 8 low ++ bytesOf 8 high)) ⌝ }
 {
-    let mut zero = true;
-    let mut place = from;
-    while (place.0 as usize) < PLACES_PER_JOB {
-        zero = zero & (0 == places[place.0 as usize]);
-        place = Place(place.0 + 1);
+    let from = from.0 as usize;
+    if from < 8 {
+        return (low >> (8 * from) == 0) & (high == 0);
     }
-    zero
+    if from < PLACES_PER_JOB {
+        return high >> (8 * (from - 8)) == 0;
+    }
+    true
 }
 
 impl Record {
@@ -84,8 +88,7 @@ impl Record {
     fn unused_zero(self) -> bool
         ensures { λ r. ⌜ r ≡ unusedZero (recordOf self) ⌝ }
     {
-        let places = self.places;
-        (self.rest == 0) & zero_from(places, Place(self.len))
+        (self.rest == 0) & zero_from(self.low, self.high, Place(self.len))
     }
 
     // "the allowed mask lies below N and is non-empty unless the mode is 0"
@@ -125,7 +128,7 @@ impl Record {
         let effective = self.effective;
         match flag {
             0 => user.below(nodes) & !effective.is_empty() & effective.within(self.allowed),
-            1 => user.below(nodes) & (effective.0 == user.and(self.allowed).0),
+            1 => user.below(nodes) & (effective.0 == user.both(self.allowed).0),
             2 => effective.0 == user.folded(self.allowed).0,
             _ => false,
         }
@@ -173,7 +176,7 @@ impl Record {
     {
         let mode = Mode::of(self);
         let allowed = self.allowed;
-        let places = self.places;
+        let places = words::unpack(self.low, self.high);
         Job {
             mode,
             allowed,
@@ -200,7 +203,8 @@ impl Record {
             user,
             allowed: kept,
             effective,
-            places,
+            low: words::pack(places, Place(0)),
+            high: words::pack(places, Place(8)),
         }
     }
 }

@@ -12,7 +12,6 @@ use super::words;
 use nodemask;
 use nodemask::Mask;
 use rules::MOST_JOBS;
-use rules::Place;
 use rules::WORDS_PER_JOB;
 
 // N and the length of the job table are in order.
@@ -39,7 +38,6 @@ pub fn load(jobs: &[u64], job: usize) -> Record
     let end = start + WORDS_PER_JOB;
     let held = &jobs[start..end];
     let word = held[0];
-    let places = words::unpack(held[4], held[5]);
     Record {
         mode: words::byte(word, 0),
         flag: words::byte(word, 1),
@@ -49,7 +47,8 @@ pub fn load(jobs: &[u64], job: usize) -> Record
         user: Mask(held[1]),
         allowed: Mask(held[2]),
         effective: Mask(held[3]),
-        places,
+        low: held[4],
+        high: held[5],
     }
 }
 
@@ -59,13 +58,12 @@ pub fn store(jobs: &mut [u64], job: usize, new: Record)
     ensures { λ r. ⌜ now (jobs .exit) ≡ putRecord (now (jobs .entry)) job (recordOf new) ⌝ }
 {
     let at = WORDS_PER_JOB * job;
-    let places = new.places;
     jobs[at] = words::head(new.mode, new.flag, new.len, new.cursor) | ((new.rest as u64) << 32);
     jobs[at + 1] = new.user.0;
     jobs[at + 2] = new.allowed.0;
     jobs[at + 3] = new.effective.0;
-    jobs[at + 4] = words::pack(places, Place(0));
-    jobs[at + 5] = words::pack(places, Place(8));
+    jobs[at + 4] = new.low;
+    jobs[at + 5] = new.high;
 }
 
 // Another cursor for a job, and zeros above it: one word is written.

@@ -12,6 +12,7 @@ ghost use Rattle.replay.specs.Encoding.{callsIn};
 ghost use Rattle.replay.specs.Replay.{run, onReplay, Belongs};
 use book;
 use encoding::CALL_WORDS;
+use machine;
 use placement;
 use rules::Decision;
 use rules::Refusal;
@@ -42,6 +43,7 @@ pub fn replay(
     if answers.len() < n {
         return Decision::Refuse(Refusal::OutputTooShort);
     }
+    let starts = machine::starts_of(counts);
     let mut i = 0;
     while i < n {
         let start = CALL_WORDS * i;
@@ -49,7 +51,7 @@ pub fn replay(
         let read = encoding::read_call(&calls[start..end]);
         let call = read.call;
         let places = read.places;
-        let answer = book::perform(counts, cpus, distances, pages, jobs, call, places);
+        let answer = book::perform(counts, &starts, cpus, distances, pages, jobs, call, places);
         answers[i] = encoding::answer_word(answer);
         i += 1;
     }

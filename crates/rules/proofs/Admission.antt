@@ -74,7 +74,7 @@ module _ (m : Machine) (t : Tables) (j k : ℕ) where
       record { tablesOk = a .0; job = b .0; cpu = c .0; formed = passed formed 4 _ (c .1) .0 }
 
   -- and one that passes them is
-  passes-admitted : Passes m t j k → admitted m t j k ≡ accept (recordAt (t .records) j)
+  pub passes-admitted : Passes m t j k → admitted m t j k ≡ accept (recordAt (t .records) j)
   unfolding admitted
   passes-admitted p = rw (p .tablesOk, p .job, p .cpu, p .formed)
 

@@ -13,7 +13,7 @@ use lib.Seq.{length-sets, drop-set-lt}
 use lib.Dec.{ltb}
 use Rattle.rules.specs.Basics.{Each, sum}
 use Rattle.rules.specs.Machine.{Machine, nodeCount, pagesOf, nodeOfPage, nodeOfCpu}
-use Rattle.rules.specs.Masks.{bit, has, both, isNone, below}
+use Rattle.rules.specs.Masks.{bit, has, both, isEmpty, below}
 use Rattle.rules.specs.Records.{Record, Policy, Mode, default, preferred, bind, interleave, list, ring, early, unknownMode, carries, modeOf}
 use Rattle.rules.specs.Records.{recordAt, putRecord, fresh, wellFormed, installed, rebound}
 use Rattle.rules.specs.SearchOrder.{Try, Plan, nearest, placed, near, tried, target, interleaved, planIn, plan, modeInForce, order}
@@ -41,7 +41,7 @@ pub record InstallPasses (n : ℕ) (records : List ℕ) (j : ℕ) (p : Policy) :
   pub job : isJob records j ≡ true
   pub formed : wellFormed n (recordAt records j) ≡ true
   pub known : policyKnown p ≡ true
-  pub allowed : not (isNone (recordAt records j .allowed)) ≡ true
+  pub allowed : not (isEmpty (recordAt records j .allowed)) ≡ true
   pub fits : policyFits (carries (modeOf (p .mode))) n (recordAt records j .allowed) p ≡ true
 
 pub installs : (n : ℕ) (records : List ℕ) (j : ℕ) (p : Policy) {x : Change} → installDecision n records j p ≡ accept x
@@ -53,7 +53,7 @@ installs n records j p {x} e =
     let b = passed (isJob records j) 2 _ (a .1) in
     let c = passed (wellFormed n r) 4 _ (b .1) in
     let d = passed (policyKnown p) 5 _ (c .1) in
-    let f = passed (not (isNone (r .allowed))) 7 _ (d .1) in
+    let f = passed (not (isEmpty (r .allowed))) 7 _ (d .1) in
     let g = passed (policyFits (carries (modeOf (p .mode))) n (r .allowed) p) 6 _ (f .1) in
     let same : x ≡ storing j (installed r p) = cc in
     (record { tablesOk = a .0; job = b .0; formed = c .0; known = d .0; allowed = f .0; fits = g .0 }, same)
@@ -64,7 +64,7 @@ pub record RebindPasses (n : ℕ) (records : List ℕ) (j allowed : ℕ) : Type 
   pub job : isJob records j ≡ true
   pub formed : wellFormed n (recordAt records j) ≡ true
   pub inRange : below n allowed ≡ true
-  pub some-node : not (isNone allowed) ≡ true
+  pub some-node : not (isEmpty allowed) ≡ true
   pub fits : rebindFits (rebound (recordAt records j) allowed) ≡ true
 
 pub rebinds : (n : ℕ) (records : List ℕ) (j allowed : ℕ) {x : Change} → rebindDecision n records j allowed ≡ accept x
@@ -76,7 +76,7 @@ rebinds n records j allowed {x} e =
     let b = passed (isJob records j) 2 _ (a .1) in
     let c = passed (wellFormed n r) 4 _ (b .1) in
     let d = passed (below n allowed) 6 _ (c .1) in
-    let f = passed (not (isNone allowed)) 7 _ (d .1) in
+    let f = passed (not (isEmpty allowed)) 7 _ (d .1) in
     let g = passed (rebindFits (rebound r allowed)) 9 _ (f .1) in
     let same : x ≡ storing j (rebound r allowed) = cc in
     (record { tablesOk = a .0; job = b .0; formed = c .0; inRange = d .0; some-node = f .0; fits = g .0 }, same)

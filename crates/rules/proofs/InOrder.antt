@@ -1,11 +1,17 @@
 -- Refusal 1: tables that are in order for a request are so for every call, and stay so.
 -- Assumes nothing.
+use Prim.Native.Nat.{ℕ, _≤_}
 use mathlib.Core.Path.{_≡_}
 use mathlib.Core.Bool.{Bool, true, false, _&&_, false≢true}
+use mathlib.Core.List.{List}
 use lib.ListN.{length}
+use Rattle.rules.specs.Basics.{sum}
 use Rattle.rules.specs.Machine.{Machine, nodeCount, nodesOk, pagesOk, cpusOk, distancesOk, pageTableOk, machineOk}
+use Rattle.rules.specs.Masks.{mostNodes}
 use Rattle.rules.specs.Records.{jobTableOk}
 use Rattle.rules.specs.Calls.{Tables, requestTablesOk, releaseTablesOk, recordTablesOk}
+use Rattle.rules.proofs.Lists.{both-true}
+use Rattle.rules.proofs.Machine.{CountsInOrder, counts-in-order}
 
 -- test 1 looks at the lengths of the page table and the job table only
 pub same-lengths-ok : (m : Machine) (t u : Tables) → length (u .ledger) ≡ length (t .ledger) → length (u .records) ≡ length (t .records)
@@ -40,3 +46,14 @@ unfolding releaseTablesOk recordTablesOk
 record-ok m t h =
     record-tests (nodesOk (nodeCount m)) (pagesOk (m .pageCounts)) (pageTableOk (m .pageCounts) (length (t .ledger))) (jobTableOk (length (t .records)))
     (release-ok m t h)
+
+-- page counts that are in order for a release are in order
+pub counted : (counts : List ℕ) (t : Tables) → releaseTablesOk counts t ≡ true → CountsInOrder counts
+unfolding releaseTablesOk
+counted counts t ok =
+    let a = both-true {a = nodesOk (length counts) && pagesOk counts && pageTableOk counts (length (t .ledger))} {b = jobTableOk (length (t .records))} ok in
+    counts-in-order counts (both-true {a = nodesOk (length counts) && pagesOk counts} {b = pageTableOk counts (length (t .ledger))} (a .0) .0)
+
+-- and their nodes and pages are few
+pub few-pages : (counts : List ℕ) (t : Tables) → releaseTablesOk counts t ≡ true → (length counts ≤ mostNodes) × (sum counts ≤ 1048576)
+few-pages counts t ok = let c = counted counts t ok in (c .nodesMost, c .pagesMost)

@@ -14,7 +14,7 @@ use lib.ListN.{length}
 use borrow.Author.Tests.{ltb-true, leb-true, eqb-true}
 use Rattle.rules.specs.Basics.{around, Each}
 use Rattle.rules.specs.Machine.{Machine, nodeCount, nodesOk, pagesOk, cpusOk, distancesOk, machineOk, pageTableOk, nodeOfCpu}
-use Rattle.rules.specs.Masks.{maskBits, has, isNone}
+use Rattle.rules.specs.Masks.{mostNodes, has, isEmpty}
 use Rattle.rules.specs.Records.{Mode, default, preferred, bind, interleave, list, ring, early, unknownMode, rowOf, Carries, nothing, aMask}
 use Rattle.rules.specs.Records.{aList, unknown}
 use Rattle.rules.specs.Records.{Flag, plain, static, relative, unknownFlag, carries, modeOf, flagOf, Policy, Turn, lastIs, Record, jobCount}
@@ -40,13 +40,13 @@ use Rattle.rules.proofs.WellFormed.{installed-formed, fresh-formed, lim
 -- ---- the turn that a grant leaves
 
 -- the target of an interleaved search is a node below N
-target-below : (n : ℕ) (r : Record) (t : ℕ) → n ≤ maskBits → Formed n r → target (r .effective) (r .turn .cursor) ≡ some t → t < n
+target-below : (n : ℕ) (r : Record) (t : ℕ) → n ≤ mostNodes → Formed n r → target (r .effective) (r .turn .cursor) ≡ some t → t < n
 unfolding target
 target-below n r t l h e =
-    let f = first-keep (has (r .effective)) (around maskBits (r .turn .cursor) maskBits) e in
+    let f = first-keep (has (r .effective)) (around mostNodes (r .turn .cursor) mostNodes) e in
     below-width n (r .allowed) t (h .allowed-below) (within-bits (r .effective) (r .allowed) (effective-within n r l h) t (eqb-true _ _ (f .passes)))
 
-module _ (n : ℕ) (distances : List ℕ) (limit : ℕ) (r : Record) (x : ℕ) (l : n ≤ maskBits) (h : Formed n r) where
+module _ (n : ℕ) (distances : List ℕ) (limit : ℕ) (r : Record) (x : ℕ) (l : n ≤ mostNodes) (h : Formed n r) where
   -- a turn is within the limit of mode k, and its unused bits are zero
   Fits : Mode → Turn → Type 0
   Fits k t = (t .cursor ≤ cursorLimit n (r .len) (rowOf k .cursor)) × (t .rest ≡ 0)
@@ -94,7 +94,7 @@ module _ (n : ℕ) (distances : List ℕ) (limit : ℕ) (r : Record) (x : ℕ) (
   -- every try of a search order leaves a turn within its limit
   order-fits : (t : Try) → t ∈ order n distances limit (plan limit r x) → Fits (modeOf (r .mode)) (t .turn)
   unfolding plan modeInForce planIn TurnsFit
-  order-fits t i = go (eqb (r .flag) 1 && isNone (r .effective)) i
+  order-fits t i = go (eqb (r .flag) 1 && isEmpty (r .effective)) i
     where
       go : (b : Bool) → t ∈ order n distances limit (planIn (cond b default (modeOf (r .mode))) limit r x) → Fits (modeOf (r .mode)) (t .turn)
       go true i = planned-fits (modeOf (r .mode)) (planIn default limit r x) (stays (modeOf (r .mode)) refl) t i
@@ -129,12 +129,12 @@ turn-formed n r t h l z = record {
 -- ---- tables in order
 
 -- "N nodes, 1 to 64"
-pub nodes-few : (n : ℕ) → nodesOk n ≡ true → n ≤ maskBits
+pub nodes-few : (n : ℕ) → nodesOk n ≡ true → n ≤ mostNodes
 unfolding nodesOk
-nodes-few n e = leb-true n maskBits (both-true {a = leb 1 n} {b = leb n maskBits} e .1)
+nodes-few n e = leb-true n mostNodes (both-true {a = leb 1 n} {b = leb n mostNodes} e .1)
 
 -- tables in order at a request have at most 64 nodes
-pub request-nodes : (m : Machine) (t : Tables) → requestTablesOk m t ≡ true → nodeCount m ≤ maskBits
+pub request-nodes : (m : Machine) (t : Tables) → requestTablesOk m t ≡ true → nodeCount m ≤ mostNodes
 unfolding requestTablesOk machineOk
 request-nodes m t e =
     let n = nodeCount m in
@@ -145,7 +145,7 @@ request-nodes m t e =
     nodes-few n (both-true {a = nodesOk n} {b = pagesOk (m .pageCounts)} (s .0) .0)
 
 -- N in order is at most 64
-pub record-nodes : (n words : ℕ) → recordTablesOk n words ≡ true → n ≤ maskBits
+pub record-nodes : (n words : ℕ) → recordTablesOk n words ≡ true → n ≤ mostNodes
 unfolding recordTablesOk
 record-nodes n words e = nodes-few n (both-true {a = nodesOk n} {b = jobTableOk words} e .0)
 

@@ -14,7 +14,7 @@ use native.Mathlib.Omega.{arith}
 use lib.ListN.{length, getD, take, drop, take-append-drop}
 use lib.Dec.{leb}
 use borrow.Author.Tests.{leb-true, le-leb}
-use Rattle.rules.specs.Basics.{all, allAt, any, keep, first, firstOr, isEmpty, each, from, around, sum, between}
+use Rattle.rules.specs.Basics.{all, allAt, any, keep, first, firstOr, isNil, each, from, around, sum, between}
 
 -- ---- tests
 
@@ -177,12 +177,12 @@ module _ {A : Type 0} where
   none-keep p (y ∷ ys) h = rw (h y (List·Memᴰ·head refl)) (none-keep p ys (λ x m. h x (List·Memᴰ·tail m)))
 
   -- nothing is kept exactly when none passes
-  pub empty-keep : (p : A → Bool) (xs : List A) → isEmpty (keep p xs) ≡ not (any p xs)
-  unfolding keep any isEmpty
+  pub empty-keep : (p : A → Bool) (xs : List A) → isNil (keep p xs) ≡ not (any p xs)
+  unfolding keep any isNil
   empty-keep p [] = refl
   empty-keep p (y ∷ ys) = go (p y) (empty-keep p ys)
     where
-      go : (b : Bool) → isEmpty (keep p ys) ≡ not (any p ys) → isEmpty (cond b (y ∷ keep p ys) (keep p ys)) ≡ not (b || any p ys)
+      go : (b : Bool) → isNil (keep p ys) ≡ not (any p ys) → isNil (cond b (y ∷ keep p ys) (keep p ys)) ≡ not (b || any p ys)
       go true e = refl
       go false e = e
 
@@ -231,8 +231,8 @@ module _ {A : Type 0} where
       go false ih = ih
 
   -- a list that is not empty has a first
-  pub first-some : (xs : List A) (d : A) → isEmpty xs ≡ false → first xs ≡ some (firstOr xs d)
-  unfolding first firstOr isEmpty
+  pub first-some : (xs : List A) (d : A) → isNil xs ≡ false → first xs ≡ some (firstOr xs d)
+  unfolding first firstOr isNil
   first-some [] d h = absurd (true≢false h)
   first-some (y ∷ ys) d h = refl
 

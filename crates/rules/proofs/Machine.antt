@@ -55,36 +55,46 @@ counts-in-order counts h =
       countMost = λ n l. leb-true (getD counts n 0) 65536 (all-true (λ c. leb c 65536) (p .0) (member-at counts n 0 l));
     }
 
+-- what a distance table that is in order holds
+pub record DistancesInOrder (n : ℕ) (distances : List ℕ) : Type 0 where
+  pub square : length distances ≡ n * n
+  pub own : (x : ℕ) → x < n → getD distances (x * n + x) 0 ≡ 10
+  pub least : (k : ℕ) → k < length distances → 10 ≤ getD distances k 0
+
+-- a distance table that passes the test is in order
+pub distances-in-order : (n : ℕ) (distances : List ℕ) → distancesOk n distances ≡ true → DistancesInOrder n distances
+unfolding distancesOk
+distances-in-order n distances h =
+    let s = both-true h in
+    let q : length distances ≡ n * n = eqb-true _ _ (s .0) in
+    let each : (i : ℕ) → i < length distances → distanceOk n i (getD distances i 0) ≡ true =
+    λ i l. ap (λ (k : ℕ). distanceOk n k (getD distances i 0)) (omega arith) ∙ allAt-true (distanceOk n) 0 distances (s .1) i l in
+    record {
+      square = q;
+      own = λ x l. eqb-true _ 10 (sym (distance-own n x _ l) ∙ each (x * n + x) (omega (arith, square-in x n x l l)));
+      least = λ i l. distance-least n i _ (each i l);
+    }
+
 -- the numbers of a machine's tables that are in order
 pub record InOrder (m : Machine) : Type 0 where
   pub counts : CountsInOrder (m .pageCounts)
   pub cpusLeast : 1 ≤ length (m .cpuNodes)
   pub cpusMost : length (m .cpuNodes) ≤ 256
   pub cpuNode : (k : ℕ) → k < length (m .cpuNodes) → getD (m .cpuNodes) k 0 < nodeCount m
-  pub square : length (m .distances) ≡ nodeCount m * nodeCount m
-  pub own : (x : ℕ) → x < nodeCount m → getD (m .distances) (x * nodeCount m + x) 0 ≡ 10
-  pub least : (k : ℕ) → k < length (m .distances) → 10 ≤ getD (m .distances) k 0
+  pub distances : DistancesInOrder (nodeCount m) (m .distances)
 
 -- a machine that passes the test is in order
 pub in-order : (m : Machine) → machineOk m ≡ true → InOrder m
-unfolding machineOk cpusOk distancesOk
+unfolding machineOk cpusOk
 in-order m h =
     let d = both-true h in
     let c = both-true (d .0) in
     let k = both-true (c .1) in
     let l = both-true (k .0) in
-    let s = both-true (d .1) in
-    let q : length (m .distances) ≡ nodeCount m * nodeCount m = eqb-true _ _ (s .0) in
-    let each : (i : ℕ) → i < length (m .distances) → distanceOk (nodeCount m) i (getD (m .distances) i 0) ≡ true =
-    λ i l. ap (λ (n : ℕ). distanceOk (nodeCount m) n (getD (m .distances) i 0)) (omega arith)
-    ∙ allAt-true (distanceOk (nodeCount m)) 0 (m .distances) (s .1) i l in
     record {
       counts = counts-in-order (m .pageCounts) (c .0);
       cpusLeast = leb-true 1 (length (m .cpuNodes)) (l .0);
       cpusMost = leb-true (length (m .cpuNodes)) 256 (l .1);
       cpuNode = λ i l. ltb-true _ (nodeCount m) (all-true _ (k .1) (member-at (m .cpuNodes) i 0 l));
-      square = q;
-      own = λ x l.
-          eqb-true _ 10 (sym (distance-own (nodeCount m) x _ l) ∙ each (x * nodeCount m + x) (omega (arith, square-in x (nodeCount m) x l l)));
-      least = λ i l. distance-least (nodeCount m) i _ (each i l);
+      distances = distances-in-order (nodeCount m) (m .distances) (d .1);
     }

@@ -101,7 +101,7 @@ byte-of-word k lo d hi w h l e =
     ap (λ (x : ℕ). x / 2 ^ k % 256) e ∙ ap (λ (x : ℕ). x % 256) (high (hi * 256 + d) k h) ∙ digits-mod hi l
 
 -- sixteen bytes stored as two words are read back
-places-again : (bs : List ℕ) → length bs ≡ placesPerJob → AreBytes bs
+pub places-again : (bs : List ℕ) → length bs ≡ placesPerJob → AreBytes bs
     → bytesOf 8 (fromBytes (take 8 bs)) ++ bytesOf 8 (fromBytes (drop 8 bs)) ≡ bs
 places-again bs l h =
     let front : length (take 8 bs) ≡ 8 = simp length-take (omega arith) in

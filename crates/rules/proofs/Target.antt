@@ -7,7 +7,7 @@ use mathlib.Core.Bool.{true, false}
 use mathlib.Core.Option.{none, some, orElse}
 use mathlib.Mathlib.Data.Option.Basic.{orElse-eq-some, orElse-eq-none}
 use native.Mathlib.Omega.{arith}
-use Rattle.rules.specs.Masks.{maskBits, has}
+use Rattle.rules.specs.Masks.{mostNodes, has}
 use Rattle.rules.specs.Records.{Record, rowOf, cursorLimit, wellFormed}
 use Rattle.rules.specs.SearchOrder.{target}
 use Rattle.rules.proofs.Turns.{lowestFrom, LowestFrom, lowest-from, lowest-none, turn-lowest}
@@ -15,30 +15,30 @@ use Rattle.rules.proofs.WellFormed.{formed}
 
 -- "the target t is the lowest effective node above the last target, else the lowest effective one". "The cursor is the last target node
 -- ..; its field holds that plus 1, or 0 for none yet": the nodes above the last target are those from the cursor field on.
-module _ (effective cursor : ℕ) (h : cursor ≤ maskBits) where
-  pub target-lowest : target effective cursor ≡ orElse (lowestFrom maskBits effective cursor) (lowestFrom maskBits effective 0)
+module _ (effective cursor : ℕ) (h : cursor ≤ mostNodes) where
+  pub target-lowest : target effective cursor ≡ orElse (lowestFrom mostNodes effective cursor) (lowestFrom mostNodes effective 0)
   unfolding target
-  target-lowest = turn-lowest maskBits effective cursor h
+  target-lowest = turn-lowest mostNodes effective cursor h
 
   -- the same in words: a target is the lowest effective node from the cursor field on; or there is none there, and it is the lowest effective
   pub target-is : {t : ℕ} → target effective cursor ≡ some t
-      → LowestFrom maskBits effective cursor t
-      ⊎ (((q : ℕ) → cursor ≤ q → q < maskBits → has effective q ≡ false) × LowestFrom maskBits effective 0 t)
+      → LowestFrom mostNodes effective cursor t
+      ⊎ (((q : ℕ) → cursor ≤ q → q < mostNodes → has effective q ≡ false) × LowestFrom mostNodes effective 0 t)
   target-is {t} e =
       ⊎-elim
-      (λ a. inl (lowest-from maskBits effective cursor a))
-      (λ b. inr (lowest-none maskBits effective cursor .0 (b .0), lowest-from maskBits effective 0 (b .1)))
-      (orElse-eq-some (lowestFrom maskBits effective cursor) (lowestFrom maskBits effective 0) t .0 (sym target-lowest ∙ e))
+      (λ a. inl (lowest-from mostNodes effective cursor a))
+      (λ b. inr (lowest-none mostNodes effective cursor .0 (b .0), lowest-from mostNodes effective 0 (b .1)))
+      (orElse-eq-some (lowestFrom mostNodes effective cursor) (lowestFrom mostNodes effective 0) t .0 (sym target-lowest ∙ e))
 
   -- "with an empty effective set it has no target": there is none exactly where no node is effective
-  pub target-none : (target effective cursor ≡ none) ↔ ((q : ℕ) → q < maskBits → has effective q ≡ false)
+  pub target-none : (target effective cursor ≡ none) ↔ ((q : ℕ) → q < mostNodes → has effective q ≡ false)
   target-none =
-      let r = orElse-eq-none (lowestFrom maskBits effective cursor) (lowestFrom maskBits effective 0) in (
-        λ e q l. lowest-none maskBits effective 0 .0 (r .0 (sym target-lowest ∙ e) .1) q zero-le l,
-        λ f. target-lowest ∙ r .1 (lowest-none maskBits effective cursor .1 (λ q s l. f q l), lowest-none maskBits effective 0 .1 (λ q s l. f q l)),
+      let r = orElse-eq-none (lowestFrom mostNodes effective cursor) (lowestFrom mostNodes effective 0) in (
+        λ e q l. lowest-none mostNodes effective 0 .0 (r .0 (sym target-lowest ∙ e) .1) q zero-le l,
+        λ f. target-lowest ∙ r .1 (lowest-none mostNodes effective cursor .1 (λ q s l. f q l), lowest-none mostNodes effective 0 .1 (λ q s l. f q l)),
       )
 
 -- "the cursor field is at most N in mode 3"
-pub cursor-in-mask : (n : ℕ) (r : Record) → n ≤ maskBits → wellFormed n r ≡ true → r .mode ≡ 3 → r .turn .cursor ≤ maskBits
+pub cursor-in-mask : (n : ℕ) (r : Record) → n ≤ mostNodes → wellFormed n r ≡ true → r .mode ≡ 3 → r .turn .cursor ≤ mostNodes
 unfolding cursorLimit rowOf
 cursor-in-mask n r few w three = let l : r .turn .cursor ≤ n = rw three at (formed n r w .cursor-within) in omega arith

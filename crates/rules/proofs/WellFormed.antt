@@ -14,7 +14,7 @@ use lib.Bits.{bitAnd, and-zero-l, and-le-r}
 use lib.Seq.{drop-at, take-append-add}
 use borrow.Author.Tests.{ltb-true, leb-true, eqb-true, lt-ltb, le-leb, eq-eqb, ne-eqb}
 use Rattle.rules.specs.Basics.{all, between, openBasics}
-use Rattle.rules.specs.Masks.{maskBits, isNone, below, both, within, image, folded, remapped, remappedTo}
+use Rattle.rules.specs.Masks.{mostNodes, isEmpty, below, both, within, image, folded, remapped, remappedTo}
 use Rattle.rules.specs.Records.{Flag, plain, static, relative, unknownFlag, flagOf, flagKnown, Carries, nothing, aMask, aList, unknown, carries}
 use Rattle.rules.specs.Records.{Cursor, noCursor, aNode, aPlace, rowOf, modeOf, isKnown, modeKnown, placesPerJob, Policy, Record, decode, encode, fresh}
 use Rattle.rules.specs.Records.{unusedZero, allowedFits, cursorLimit, cursorFits, noMasks, effectiveFits, masksFit, dataFits, wellFormed}
@@ -28,12 +28,12 @@ use Rattle.rules.proofs.Records.{Storable, decode-encode}
 -- ---- tests that passed
 
 -- a mask that is not empty is above 0
-pub some-pos : (m : ℕ) → not (isNone m) ≡ true → 0 < m
+pub some-pos : (m : ℕ) → not (isEmpty m) ≡ true → 0 < m
 some-pos zero e = absurd (false≢true e)
 some-pos (suc m) e = omega arith
 
 -- a mask above 0 is not empty
-pos-some : (m : ℕ) → 0 < m → not (isNone m) ≡ true
+pos-some : (m : ℕ) → 0 < m → not (isEmpty m) ≡ true
 pos-some m h = ap not (ne-eqb m 0 (λ e. omega arith))
 
 -- ---- what the test comes to
@@ -52,10 +52,10 @@ pub record Formed (n : ℕ) (r : Record) : Type 0 where
 pub allowed-facts : (n : ℕ) (r : Record) → allowedFits n r ≡ true → (r .allowed < 2 ^ n) × ((r .mode ≡ 0) ⊎ (0 < r .allowed))
 unfolding allowedFits
 allowed-facts n r e =
-    let p = both-true {a = below n (r .allowed)} {b = eqb (r .mode) 0 || not (isNone (r .allowed))} e in
-    (ltb-true (r .allowed) (2 ^ n) (p .0), cases (either-true {a = eqb (r .mode) 0} {b = not (isNone (r .allowed))} (p .1)))
+    let p = both-true {a = below n (r .allowed)} {b = eqb (r .mode) 0 || not (isEmpty (r .allowed))} e in
+    (ltb-true (r .allowed) (2 ^ n) (p .0), cases (either-true {a = eqb (r .mode) 0} {b = not (isEmpty (r .allowed))} (p .1)))
   where
-    cases : (eqb (r .mode) 0 ≡ true) ⊎ (not (isNone (r .allowed)) ≡ true) → (r .mode ≡ 0) ⊎ (0 < r .allowed)
+    cases : (eqb (r .mode) 0 ≡ true) ⊎ (not (isEmpty (r .allowed)) ≡ true) → (r .mode ≡ 0) ⊎ (0 < r .allowed)
     cases (inl x) = inl (eqb-true (r .mode) 0 x)
     cases (inr x) = inr (some-pos (r .allowed) x)
 
@@ -92,7 +92,7 @@ well-formed n r h =
     both-hold (both-hold (both-hold (both-hold (both-hold (h .unused-zero) (h .mode-known)) (h .flag-known))
     (both-hold (lt-ltb (r .allowed) (2 ^ n) (h .allowed-below)) (cases (h .allowed-some)))) (le-leb _ _ (h .cursor-within))) (h .data-fits)
   where
-    cases : (r .mode ≡ 0) ⊎ (0 < r .allowed) → (eqb (r .mode) 0 || not (isNone (r .allowed))) ≡ true
+    cases : (r .mode ≡ 0) ⊎ (0 < r .allowed) → (eqb (r .mode) 0 || not (isEmpty (r .allowed))) ≡ true
     cases (inl x) = rw x
     cases (inr x) = rw (pos-some (r .allowed) x) (or-true (eqb (r .mode) 0))
 
@@ -100,8 +100,8 @@ well-formed n r h =
 none-there : (r : Record) → noMasks r ≡ true → (r .flag ≡ 0) × (r .user ≡ 0) × (r .effective ≡ 0)
 unfolding noMasks
 none-there r e =
-    let p = both-true {a = eqb (r .flag) 0 && isNone (r .user)} {b = isNone (r .effective)} e in
-    let q = both-true {a = eqb (r .flag) 0} {b = isNone (r .user)} (p .0) in
+    let p = both-true {a = eqb (r .flag) 0 && isEmpty (r .user)} {b = isEmpty (r .effective)} e in
+    let q = both-true {a = eqb (r .flag) 0} {b = isEmpty (r .user)} (p .0) in
     (eqb-true _ _ (q .0), eqb-true _ _ (q .1), eqb-true _ _ (p .1))
 
 -- the masks of a record that carries none
@@ -140,13 +140,13 @@ rest-zero n r h = eqb-true _ _ (both-true {a = eqb (r .turn .rest) 0} {b = all (
 -- ---- the effective mask
 
 -- a mask of nodes below n has at most 64 bits
-word-mask : {n : ℕ} (m : ℕ) → n ≤ maskBits → m < 2 ^ n → m < 2 ^ maskBits
+word-mask : {n : ℕ} (m : ℕ) → n ≤ mostNodes → m < 2 ^ n → m < 2 ^ mostNodes
 word-mask m l h = lt-of-lt-of-le h (pow-mono l)
 
 -- what two masks share lies within the second
-both-within : (a b : ℕ) → b < 2 ^ maskBits → bitAnd (both a b) b ≡ both a b
+both-within : (a b : ℕ) → b < 2 ^ mostNodes → bitAnd (both a b) b ≡ both a b
 both-within a b h =
-    bits-within maskBits (both a b) b (lt-of-le-of-lt (and-le-r a b) h) (λ n e. omega (arith, bit-and a b n, bit-lt a n, bit-lt b n))
+    bits-within mostNodes (both a b) b (lt-of-le-of-lt (and-le-r a b) h) (λ n e. omega (arith, bit-and a b n, bit-lt a n, bit-lt b n))
 
 -- mode 0 carries no mask
 pub mask-mode : (mode : ℕ) → carries (modeOf mode) ≡ aMask → mode ≡ 0 → ⊥
@@ -163,25 +163,25 @@ some-allowed n r h c = go (h .allowed-some)
     go (inr p) = p
 
 -- "effective .. within allowed": in every well-formed record
-pub effective-within : (n : ℕ) (r : Record) → n ≤ maskBits → Formed n r → bitAnd (r .effective) (r .allowed) ≡ r .effective
+pub effective-within : (n : ℕ) (r : Record) → n ≤ mostNodes → Formed n r → bitAnd (r .effective) (r .allowed) ≡ r .effective
 unfolding dataFits masksFit effectiveFits
 effective-within n r l h = go (carries (modeOf (r .mode))) refl (h .data-fits)
   where
-    low : r .allowed < 2 ^ maskBits
+    low : r .allowed < 2 ^ mostNodes
     low = word-mask (r .allowed) l (h .allowed-below)
 
     empty : noMasks r ≡ true → bitAnd (r .effective) (r .allowed) ≡ r .effective
     empty e = let z = none-there r e .2 in rw z (and-zero-l (r .allowed))
 
     by-flag : (f : Flag) → 0 < r .allowed → effectiveFits n r f ≡ true → bitAnd (r .effective) (r .allowed) ≡ r .effective
-    by-flag plain p e = eqb-true _ _ (both-true {a = below n (r .user) && not (isNone (r .effective))} {b = within (r .effective) (r .allowed)} e .1)
+    by-flag plain p e = eqb-true _ _ (both-true {a = below n (r .user) && not (isEmpty (r .effective))} {b = within (r .effective) (r .allowed)} e .1)
     by-flag static p e =
         let t = both-true {a = below n (r .user)} {b = eqb (r .effective) (both (r .user) (r .allowed))} e .1 in
         let q : r .effective ≡ both (r .user) (r .allowed) = eqb-true _ _ t in
         rw q (both-within (r .user) (r .allowed) low)
     by-flag relative p e =
-        let q : r .effective ≡ folded maskBits (r .user) (r .allowed) = eqb-true _ _ e in
-        rw q (folded-within maskBits (r .user) (r .allowed) p low)
+        let q : r .effective ≡ folded mostNodes (r .user) (r .allowed) = eqb-true _ _ e in
+        rw q (folded-within mostNodes (r .user) (r .allowed) p low)
     by-flag unknownFlag p e = absurd (false≢true e)
 
     by-user : (b : Bool) → carries (modeOf (r .mode)) ≡ aMask → cond b (eqb (r .mode) 1 && noMasks r) (effectiveFits n r (flagOf (r .flag))) ≡ true
@@ -191,7 +191,7 @@ effective-within n r l h = go (carries (modeOf (r .mode))) refl (h .data-fits)
 
     go : (k : Carries) → carries (modeOf (r .mode)) ≡ k → dataFits n r k ≡ true → bitAnd (r .effective) (r .allowed) ≡ r .effective
     go nothing c e = empty (both-true {a = noMasks r} {b = eqb (r .len) 0} e .0)
-    go aMask c e = by-user (isNone (r .user)) c (both-true {a = masksFit n r} {b = eqb (r .len) 0} e .0)
+    go aMask c e = by-user (isEmpty (r .user)) c (both-true {a = masksFit n r} {b = eqb (r .len) 0} e .0)
     go aList c e = empty (both-true {a = noMasks r} {b = between 1 placesPerJob (r .len)} e .0)
     go unknown c e = absurd (false≢true e)
 
@@ -208,35 +208,35 @@ pub remapped-none : (w old new : ℕ) → remapped w 0 old new ≡ 0
 unfolding remapped
 remapped-none w old new = image-none (remappedTo w old new) w
 
-module _ (n : ℕ) (r : Record) (new : ℕ) (l : n ≤ maskBits) (h : Formed n r) (fits : new < 2 ^ n) (p : 0 < new) where
+module _ (n : ℕ) (r : Record) (new : ℕ) (l : n ≤ mostNodes) (h : Formed n r) (fits : new < 2 ^ n) (p : 0 < new) where
   -- a rebind leaves a record without masks without masks
   rebound-none : noMasks r ≡ true → noMasks (rebound r new) ≡ true
   unfolding rebound effectiveAtRebind
   rebound-none e =
       let z = none-there r e in
-      none-fit (rebound r new) (z .0) (z .1) (rw (z .0, z .2) (remapped-none maskBits (r .allowed) new))
+      none-fit (rebound r new) (z .0) (z .1) (rw (z .0, z .2) (remapped-none mostNodes (r .allowed) new))
 
   -- the effective mask that a rebind stores fits its flag
   rebound-effective : (f : Flag) → flagOf (r .flag) ≡ f → effectiveFits n r f ≡ true → effectiveFits n (rebound r new) f ≡ true
   unfolding rebound effectiveAtRebind effectiveFits
   rebound-effective plain c e =
-      let q = both-true {a = below n (r .user) && not (isNone (r .effective))} {b = within (r .effective) (r .allowed)} e in
-      let t = both-true {a = below n (r .user)} {b = not (isNone (r .effective))} (q .0) in
+      let q = both-true {a = below n (r .user) && not (isEmpty (r .effective))} {b = within (r .effective) (r .allowed)} e in
+      let t = both-true {a = below n (r .user)} {b = not (isEmpty (r .effective))} (q .0) in
       let some : 0 < r .effective = some-pos (r .effective) (t .1) in
       let inside : bitAnd (r .effective) (r .allowed) ≡ r .effective = eqb-true _ _ (q .1) in
-      let low : new < 2 ^ maskBits = word-mask new l fits in
+      let low : new < 2 ^ mostNodes = word-mask new l fits in
       let under : r .effective ≤ r .allowed = rw inside at (and-le-r (r .effective) (r .allowed)) in
-      let small : r .effective < 2 ^ maskBits = word-mask (r .effective) l (lt-of-le-of-lt under (h .allowed-below)) in
+      let small : r .effective < 2 ^ mostNodes = word-mask (r .effective) l (lt-of-le-of-lt under (h .allowed-below)) in
       rw (
         c,
         t .0,
-        pos-some (remapped maskBits (r .effective) (r .allowed) new) (remapped-pos maskBits (r .effective) new p low (r .allowed) some small),
-        eq-eqb _ _ (remapped-within maskBits (r .effective) new p low (r .allowed)),
+        pos-some (remapped mostNodes (r .effective) (r .allowed) new) (remapped-pos mostNodes (r .effective) new p low (r .allowed) some small),
+        eq-eqb _ _ (remapped-within mostNodes (r .effective) new p low (r .allowed)),
       )
   rebound-effective static c e =
       let t = both-true {a = below n (r .user)} {b = eqb (r .effective) (both (r .user) (r .allowed))} e .0 in
       rw (c, t, eq-eqb (both (r .user) new) _ refl)
-  rebound-effective relative c e = rw c (eq-eqb (folded maskBits (r .user) new) _ refl)
+  rebound-effective relative c e = rw c (eq-eqb (folded mostNodes (r .user) new) _ refl)
   rebound-effective unknownFlag c e = absurd (false≢true e)
 
   -- the masks that a rebind stores fit, whether or not there is a user mask
@@ -249,7 +249,7 @@ module _ (n : ℕ) (r : Record) (new : ℕ) (l : n ≤ maskBits) (h : Formed n r
   rebound-data : (k : Carries) → dataFits n r k ≡ true → dataFits n (rebound r new) k ≡ true
   unfolding dataFits masksFit rebound
   rebound-data nothing e = let q = both-true {a = noMasks r} {b = eqb (r .len) 0} e in both-hold (rebound-none (q .0)) (q .1)
-  rebound-data aMask e = let q = both-true {a = masksFit n r} {b = eqb (r .len) 0} e in both-hold (rebound-masks (isNone (r .user)) (q .0)) (q .1)
+  rebound-data aMask e = let q = both-true {a = masksFit n r} {b = eqb (r .len) 0} e in both-hold (rebound-masks (isEmpty (r .user)) (q .0)) (q .1)
   rebound-data aList e = let q = both-true {a = noMasks r} {b = between 1 placesPerJob (r .len)} e in both-hold (rebound-none (q .0)) (q .1)
   rebound-data unknown e = absurd (false≢true e)
 
@@ -311,26 +311,26 @@ pub few-places : (k : Carries) (n allowed : ℕ) (p : Policy) → policyFits k n
 unfolding policyFits
 few-places nothing n a p e =
     let c = length (p .places) in
-    le-trans (le-of-eq (eqb-true c 0 (both-true {a = isNone (p .user)} {b = eqb c 0} e .1))) zero-le
+    le-trans (le-of-eq (eqb-true c 0 (both-true {a = isEmpty (p .user)} {b = eqb c 0} e .1))) zero-le
 few-places aMask n a p e =
     let c = length (p .places) in
-    let m = (eqb (p .mode) 1 || not (isNone (p .user))) && maskFits n a p in
+    let m = (eqb (p .mode) 1 || not (isEmpty (p .user))) && maskFits n a p in
     le-trans (le-of-eq (eqb-true c 0 (both-true {a = m} {b = eqb c 0} e .1))) zero-le
 few-places aList n a p e =
     let c = length (p .places) in
-    let t = both-true {a = isNone (p .user)} {b = between 1 placesPerJob c} e .1 in
+    let t = both-true {a = isEmpty (p .user)} {b = between 1 placesPerJob c} e .1 in
     leb-true c placesPerJob (both-true {a = leb 1 c} {b = leb c placesPerJob} t .1)
 few-places unknown n a p e = absurd (false≢true e)
 
 -- a mask that fits, without the relative flag, lies below N and meets the allowed set
 mask-fits : (n allowed : ℕ) (p : Policy) → (flagOf (p .flag) ≡ relative → ⊥) → 0 < p .user → maskFits n allowed p ≡ true
-    → (below n (p .user) ≡ true) × (not (isNone (both (p .user) allowed)) ≡ true)
+    → (below n (p .user) ≡ true) × (not (isEmpty (both (p .user) allowed)) ≡ true)
 unfolding maskFits
 mask-fits n allowed p ne q e =
     both-true (rw (ne-eqb (p .flag) 2 (λ z. ne (rw z)), ne-eqb (p .user) 0 (λ z. omega arith)) at e)
 
 -- the policy's mask is not empty, or the mode is 1 and the flag 0
-mask-or-local : (p : Policy) → p .user ≡ 0 → (eqb (p .mode) 1 || not (isNone (p .user))) ≡ true → flagFits aMask p ≡ true
+mask-or-local : (p : Policy) → p .user ≡ 0 → (eqb (p .mode) 1 || not (isEmpty (p .user))) ≡ true → flagFits aMask p ≡ true
     → (eqb (p .mode) 1 ≡ true) × (p .flag ≡ 0)
 unfolding flagFits
 mask-or-local p z e f = go (eqb (p .mode) 1) (rw z at e) (rw z at f)
@@ -339,7 +339,7 @@ mask-or-local p z e f = go (eqb (p .mode) 1) (rw z at e) (rw z at f)
     go true e f = (refl, eqb-true (p .flag) 0 (sym (or-false (eqb (p .flag) 0)) ∙ f))
     go false e f = absurd (false≢true e)
 
-module _ (n : ℕ) (r : Record) (p : Policy) (l : n ≤ maskBits) (h : Formed n r) (some : 0 < r .allowed) where
+module _ (n : ℕ) (r : Record) (p : Policy) (l : n ≤ mostNodes) (h : Formed n r) (some : 0 < r .allowed) where
   -- the record that an install stores
   new : Record
   new = installed r p
@@ -359,16 +359,16 @@ module _ (n : ℕ) (r : Record) (p : Policy) (l : n ≤ maskBits) (h : Formed n 
   installed-effective static c q k e =
       let t = mask-fits n (r .allowed) p (λ x. let z : _≡_ {A = ℕ} 0 1 = cc in omega arith) q e in
       rw (c, t .0, eq-eqb (both (p .user) (r .allowed)) _ refl)
-  installed-effective relative c q k e = rw c (eq-eqb (folded maskBits (p .user) (r .allowed)) _ refl)
+  installed-effective relative c q k e = rw c (eq-eqb (folded mostNodes (p .user) (r .allowed)) _ refl)
   installed-effective unknownFlag c q k e = absurd (false≢true k)
 
   -- its masks fit
-  installed-masks : flagKnown (flagOf (p .flag)) ≡ true → flagFits aMask p ≡ true → (eqb (p .mode) 1 || not (isNone (p .user))) ≡ true
+  installed-masks : flagKnown (flagOf (p .flag)) ≡ true → flagFits aMask p ≡ true → (eqb (p .mode) 1 || not (isEmpty (p .user))) ≡ true
       → maskFits n (r .allowed) p ≡ true → masksFit n new ≡ true
   unfolding new installed masksFit
-  installed-masks k f m e = go (isNone (p .user)) refl
+  installed-masks k f m e = go (isEmpty (p .user)) refl
     where
-      go : (b : Bool) → isNone (p .user) ≡ b → cond b (eqb (p .mode) 1 && noMasks new) (effectiveFits n new (flagOf (p .flag))) ≡ true
+      go : (b : Bool) → isEmpty (p .user) ≡ b → cond b (eqb (p .mode) 1 && noMasks new) (effectiveFits n new (flagOf (p .flag))) ≡ true
       go true z =
           let q = mask-or-local p (eqb-true (p .user) 0 z) m f in
           both-hold (q .0) (installed-none (q .1) (eqb-true (p .user) 0 z))
@@ -379,15 +379,15 @@ module _ (n : ℕ) (r : Record) (p : Policy) (l : n ≤ maskBits) (h : Formed n 
       → dataFits n new k ≡ true
   unfolding new installed dataFits flagFits policyFits
   installed-data nothing k f e =
-      let q = both-true {a = isNone (p .user)} {b = eqb (length (p .places)) 0} e in
+      let q = both-true {a = isEmpty (p .user)} {b = eqb (length (p .places)) 0} e in
       both-hold (installed-none (eqb-true (p .flag) 0 f) (eqb-true (p .user) 0 (q .0))) (q .1)
   installed-data aMask k f e =
-      let m = eqb (p .mode) 1 || not (isNone (p .user)) in
+      let m = eqb (p .mode) 1 || not (isEmpty (p .user)) in
       let q = both-true {a = m && maskFits n (r .allowed) p} {b = eqb (length (p .places)) 0} e in
       let t = both-true {a = m} {b = maskFits n (r .allowed) p} (q .0) in
       both-hold (installed-masks k f (t .0) (t .1)) (q .1)
   installed-data aList k f e =
-      let q = both-true {a = isNone (p .user)} {b = between 1 placesPerJob (length (p .places))} e in
+      let q = both-true {a = isEmpty (p .user)} {b = between 1 placesPerJob (length (p .places))} e in
       both-hold (installed-none (eqb-true (p .flag) 0 f) (eqb-true (p .user) 0 (q .0))) (q .1)
   installed-data unknown k f e = absurd (false≢true e)
 
@@ -434,14 +434,14 @@ short-list n r aList e = carries-list n r e .4
 short-list n r unknown e = absurd (false≢true e)
 
 -- a cursor within its limit is a byte
-pub limit-small : (n len : ℕ) (c : Cursor) → n ≤ maskBits → len < 256 → cursorLimit n len c < 256
+pub limit-small : (n len : ℕ) (c : Cursor) → n ≤ mostNodes → len < 256 → cursorLimit n len c < 256
 unfolding cursorLimit
 limit-small n len noCursor h l = omega arith
 limit-small n len aNode h l = omega arith
 limit-small n len aPlace h l = l
 
 -- a well-formed record with sixteen bytes for its places can be stored
-pub formed-storable : (n : ℕ) (r : Record) → n ≤ maskBits → Formed n r → length (r .bytes) ≡ placesPerJob → AreBytes (r .bytes) → Storable r
+pub formed-storable : (n : ℕ) (r : Record) → n ≤ mostNodes → Formed n r → length (r .bytes) ≡ placesPerJob → AreBytes (r .bytes) → Storable r
 formed-storable n r l h sixteen bytes =
     let short : r .len ≤ placesPerJob = short-list n r (carries (modeOf (r .mode))) (h .data-fits) in
     record {
@@ -454,5 +454,5 @@ formed-storable n r l h sixteen bytes =
     }
 
 -- decode and encode of records are inverse on well-formed records: this way round here, the other way round for any six words (encode-decode)
-pub inverse : (n : ℕ) (r : Record) → n ≤ maskBits → wellFormed n r ≡ true → length (r .bytes) ≡ placesPerJob → AreBytes (r .bytes) → decode (encode r) ≡ r
+pub inverse : (n : ℕ) (r : Record) → n ≤ mostNodes → wellFormed n r ≡ true → length (r .bytes) ≡ placesPerJob → AreBytes (r .bytes) → decode (encode r) ≡ r
 inverse n r l w sixteen bytes = decode-encode r (formed-storable n r l (formed n r w) sixteen bytes)

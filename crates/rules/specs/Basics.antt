@@ -41,9 +41,9 @@ module _ {A : Type 0} where
   Each P [] = Unit {0}
   Each P (x ∷ xs) = P x × Each P xs
 
-  unfoldable pub isEmpty : List A → Bool
-  isEmpty [] = true
-  isEmpty (x ∷ xs) = false
+  unfoldable pub isNil : List A → Bool
+  isNil [] = true
+  isNil (x ∷ xs) = false
 
 -- the list f x for each x of xs, end to end
 unfoldable pub each : {A B : Type 0} → (A → List B) → List A → List B
@@ -82,5 +82,5 @@ same (x ∷ xs) (y ∷ ys) = eqb x y && same xs ys
 
 -- for a proof that computes: `unfolding openBasics` opens every definition of this file
 unfoldable pub openBasics : Unit {0}
-unfolding all any keep first firstOr count isEmpty each from around sum allAt same
+unfolding all any keep first firstOr count isNil each from around sum allAt same
 openBasics = tt

@@ -7,7 +7,7 @@ use lib.ListN.{length, getD, set}
 use lib.Dec.{ltb, eqb}
 use Rattle.rules.specs.Basics.{sum, between}
 use Rattle.rules.specs.Machine.{Machine, nodeCount, nodesOk, pagesOk, machineOk, pageTableOk, nodeOfPage, nodeOfCpu}
-use Rattle.rules.specs.Masks.{both, below, isNone}
+use Rattle.rules.specs.Masks.{both, below, isEmpty}
 use Rattle.rules.specs.Records.{Policy, Record, Carries, nothing, aMask, aList, unknown, carries, modeOf, flagOf, modeKnown, flagKnown}
 use Rattle.rules.specs.Records.{placesPerJob, jobCount, jobTableOk, recordAt, putRecord, fresh, wellFormed, installed, rebound, withTurn}
 use Rattle.rules.specs.SearchOrder.{Try, plan, order, chosen, pickPage}
@@ -111,7 +111,7 @@ recordTablesOk n words = nodesOk n && jobTableOk words
 -- "5 .. a flag with modes 0, 4, 5, 6 or with preferred and an empty mask"
 unfoldable pub flagFits : Carries → Policy → Bool
 flagFits nothing p = eqb (p .flag) 0
-flagFits aMask p = eqb (p .flag) 0 || not (eqb (p .mode) 1 && isNone (p .user))
+flagFits aMask p = eqb (p .flag) 0 || not (eqb (p .mode) 1 && isEmpty (p .user))
 flagFits aList p = eqb (p .flag) 0
 flagFits unknown p = false
 
@@ -121,19 +121,19 @@ policyKnown p = modeKnown (modeOf (p .mode)) && flagKnown (flagOf (p .flag)) && 
 
 -- "6 at install: .. flag 0 or 1 with a bit at N or above, or with a non-empty mask that misses the allowed set"
 unfoldable pub maskFits : ℕ → ℕ → Policy → Bool
-maskFits n allowed p = eqb (p .flag) 2 || (below n (p .user) && (isNone (p .user) || not (isNone (both (p .user) allowed))))
+maskFits n allowed p = eqb (p .flag) 2 || (below n (p .user) && (isEmpty (p .user) || not (isEmpty (both (p .user) allowed))))
 
 -- "6 at install: bind or interleave with an empty mask; default or a list mode with a mask; .. modes 0 to 3 with places; modes 4 to 6
 -- with 0 or over 16 places"
 unfoldable pub policyFits : Carries → ℕ → ℕ → Policy → Bool
-policyFits nothing n allowed p = isNone (p .user) && eqb (length (p .places)) 0
-policyFits aMask n allowed p = (eqb (p .mode) 1 || not (isNone (p .user))) && maskFits n allowed p && eqb (length (p .places)) 0
-policyFits aList n allowed p = isNone (p .user) && between 1 placesPerJob (length (p .places))
+policyFits nothing n allowed p = isEmpty (p .user) && eqb (length (p .places)) 0
+policyFits aMask n allowed p = (eqb (p .mode) 1 || not (isEmpty (p .user))) && maskFits n allowed p && eqb (length (p .places)) 0
+policyFits aList n allowed p = isEmpty (p .user) && between 1 placesPerJob (length (p .places))
 policyFits unknown n allowed p = false
 
 -- "9 a rebind gives an empty effective set, flag not static, user mask not empty"
 unfoldable pub rebindFits : Record → Bool
-rebindFits r = not (isNone (r .effective) && not (eqb (r .flag) 1) && not (isNone (r .user)))
+rebindFits r = not (isEmpty (r .effective) && not (eqb (r .flag) 1) && not (isEmpty (r .user)))
 
 -- "10 page number out of range, or not held by this job"
 unfoldable pub holds : List ℕ → List ℕ → ℕ → ℕ → Bool
@@ -191,7 +191,7 @@ installDecision n records j p =
     (unless (isJob records j) 2
     (unless (wellFormed n (recordAt records j)) 4
     (unless (policyKnown p) 5
-    (unless (not (isNone (recordAt records j .allowed))) 7
+    (unless (not (isEmpty (recordAt records j .allowed))) 7
     (unless (policyFits (carries (modeOf (p .mode))) n (recordAt records j .allowed) p) 6
     (accept (storing j (installed (recordAt records j) p))))))))
 
@@ -202,7 +202,7 @@ rebindDecision n records j allowed =
     (unless (isJob records j) 2
     (unless (wellFormed n (recordAt records j)) 4
     (unless (below n allowed) 6
-    (unless (not (isNone allowed)) 7
+    (unless (not (isEmpty allowed)) 7
     (unless (rebindFits (rebound (recordAt records j) allowed)) 9
     (accept (storing j (rebound (recordAt records j) allowed))))))))
 

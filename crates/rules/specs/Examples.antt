@@ -6,7 +6,7 @@ use lib.ListN.{getD, replicate}
 use lib.Dec.{T, eqb}
 use Rattle.rules.specs.Basics.{openBasics, sum, all, any, from, same}
 use Rattle.rules.specs.Machine.{openMachine, Machine}
-use Rattle.rules.specs.Masks.{openMasks, maskBits, maskOf}
+use Rattle.rules.specs.Masks.{openMasks, mostNodes, maskOf}
 use Rattle.rules.specs.Records.{openRecords, wordsPerJob, recordAt, policy}
 use Rattle.rules.specs.SearchOrder.{openSearchOrder}
 use Rattle.rules.specs.Calls.{openCalls, Answer, granted, done, refused, Tables, orderOf, numbers}
@@ -34,7 +34,7 @@ start m = record { ledger = replicate (sum (m .pageCounts)) 0; records = replica
 
 -- the mask of some node numbers
 abbrev pub nodes : List ℕ → ℕ
-nodes ns = maskOf maskBits (λ n. any (eqb n) ns)
+nodes ns = maskOf mostNodes (λ n. any (eqb n) ns)
 
 -- What an example says. On machine A, job 0, allowed all nodes and then installed so, has its requests from this CPU answered so; or has
 -- this search order. With N = 10, job 0 has this effective mask after these calls.

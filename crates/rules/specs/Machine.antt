@@ -5,7 +5,7 @@ use mathlib.Core.List.{List, [], _∷_}
 use lib.ListN.{length, getD, take}
 use lib.Dec.{leb, ltb, eqb}
 use Rattle.rules.specs.Basics.{all, from, sum, between, allAt}
-use Rattle.rules.specs.Masks.{maskBits}
+use Rattle.rules.specs.Masks.{mostNodes}
 
 -- "The machine": the page counts of its nodes, the CPUs' nodes, and the distances row by row
 pub record Machine : Type 0 where
@@ -19,7 +19,7 @@ nodeCount m = length (m .pageCounts)
 
 -- "N nodes, 1 to 64": a mask has a bit for each
 unfoldable pub nodesOk : ℕ → Bool
-nodesOk n = between 1 maskBits n
+nodesOk n = between 1 mostNodes n
 
 -- "Each has 0 to 65,536 pages, at most 1,048,576 together"
 unfoldable pub pagesOk : List ℕ → Bool

@@ -5,8 +5,8 @@ use lib.Bits.{bitAnd}
 use lib.Dec.{eqb, ltb}
 
 -- the number of bits of a record's masks
-abbrev pub maskBits : ℕ
-maskBits = 64
+abbrev pub mostNodes : ℕ
+mostNodes = 64
 
 -- "Bit n of a mask stands for node n": the bit, 0 or 1
 abbrev pub bit : ℕ → ℕ → ℕ
@@ -17,8 +17,8 @@ abbrev pub has : ℕ → ℕ → Bool
 has m n = eqb (bit m n) 1
 
 -- the mask is empty
-abbrev pub isNone : ℕ → Bool
-isNone m = eqb m 0
+abbrev pub isEmpty : ℕ → Bool
+isEmpty m = eqb m 0
 
 -- the mask has no bit at n or above
 abbrev pub below : ℕ → ℕ → Bool

@@ -6,7 +6,7 @@ use lib.ListN.{length, getD, take, drop, replicate}
 use lib.Seq.{sets}
 use lib.Dec.{leb, eqb}
 use Rattle.rules.specs.Basics.{all, between}
-use Rattle.rules.specs.Masks.{maskBits, both, within, below, isNone, folded, remapped}
+use Rattle.rules.specs.Masks.{mostNodes, both, within, below, isEmpty, folded, remapped}
 
 -- "six to a job"
 abbrev pub wordsPerJob : ℕ
@@ -175,7 +175,7 @@ flagKnown unknownFlag = false
 
 -- "the allowed mask lies below N and is non-empty unless the mode is 0"
 unfoldable pub allowedFits : ℕ → Record → Bool
-allowedFits n r = below n (r .allowed) && (eqb (r .mode) 0 || not (isNone (r .allowed)))
+allowedFits n r = below n (r .allowed) && (eqb (r .mode) 0 || not (isEmpty (r .allowed)))
 
 -- "the cursor field is at most N in mode 3, at most the list length in 5 and 6, and 0 elsewhere"
 unfoldable pub cursorLimit : ℕ → ℕ → Cursor → ℕ
@@ -188,19 +188,19 @@ cursorFits n r = leb (r .turn .cursor) (cursorLimit n (r .len) (rowOf (modeOf (r
 
 -- "flag 0 and empty user and effective masks"
 unfoldable pub noMasks : Record → Bool
-noMasks r = eqb (r .flag) 0 && isNone (r .user) && isNone (r .effective)
+noMasks r = eqb (r .flag) 0 && isEmpty (r .user) && isEmpty (r .effective)
 
 -- "with a user mask, flag 0 needs a non-empty effective mask within allowed, static needs user within N and effective = user and
 -- allowed, relative needs effective = the folded mask below. With flag 0 the user mask lies below N"
 unfoldable pub effectiveFits : ℕ → Record → Flag → Bool
-effectiveFits n r plain = below n (r .user) && not (isNone (r .effective)) && within (r .effective) (r .allowed)
+effectiveFits n r plain = below n (r .user) && not (isEmpty (r .effective)) && within (r .effective) (r .allowed)
 effectiveFits n r static = below n (r .user) && eqb (r .effective) (both (r .user) (r .allowed))
-effectiveFits n r relative = eqb (r .effective) (folded maskBits (r .user) (r .allowed))
+effectiveFits n r relative = eqb (r .effective) (folded mostNodes (r .user) (r .allowed))
 effectiveFits n r unknownFlag = false
 
 -- "In modes 1 to 3 the user mask is non-empty, except that preferred may have user and effective masks empty with flag 0"
 unfoldable pub masksFit : ℕ → Record → Bool
-masksFit n r = cond (isNone (r .user)) (eqb (r .mode) 1 && noMasks r) (effectiveFits n r (flagOf (r .flag)))
+masksFit n r = cond (isEmpty (r .user)) (eqb (r .mode) 1 && noMasks r) (effectiveFits n r (flagOf (r .flag)))
 
 -- "modes 0, 4, 5, 6 have flag 0 and empty user and effective masks; modes 0 to 3 have no list; modes 4 to 6 have 1 to 16 places"
 unfoldable pub dataFits : ℕ → Record → Carries → Bool
@@ -219,7 +219,7 @@ wellFormed n r =
 unfoldable pub effectiveAtInstall : Flag → ℕ → ℕ → ℕ
 effectiveAtInstall plain user allowed = both user allowed
 effectiveAtInstall static user allowed = both user allowed
-effectiveAtInstall relative user allowed = folded maskBits user allowed
+effectiveAtInstall relative user allowed = folded mostNodes user allowed
 effectiveAtInstall unknownFlag user allowed = 0
 
 -- "Install stores mode, flag, user mask or places, keeps the allowed mask and clears the rest"
@@ -237,9 +237,9 @@ installed r p = record {
 
 -- "flag 0 remaps the effective mask, static takes user and allowed, relative folds afresh"
 unfoldable pub effectiveAtRebind : Flag → Record → ℕ → ℕ
-effectiveAtRebind plain r new = remapped maskBits (r .effective) (r .allowed) new
+effectiveAtRebind plain r new = remapped mostNodes (r .effective) (r .allowed) new
 effectiveAtRebind static r new = both (r .user) new
-effectiveAtRebind relative r new = folded maskBits (r .user) new
+effectiveAtRebind relative r new = folded mostNodes (r .user) new
 effectiveAtRebind unknownFlag r new = 0
 
 -- "Rebind replaces the allowed mask .. The cursor stays"

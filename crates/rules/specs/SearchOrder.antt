@@ -5,9 +5,9 @@ use mathlib.Core.List.{List, [], _∷_, _++_, map}
 use mathlib.Core.Option.{Option, none, some}
 use lib.ListN.{getD}
 use lib.Dec.{ltb, eqb}
-use Rattle.rules.specs.Basics.{keep, first, firstOr, isEmpty, each, from, around}
+use Rattle.rules.specs.Basics.{keep, first, firstOr, isNil, each, from, around}
 use Rattle.rules.specs.Machine.{pagesOf, distance}
-use Rattle.rules.specs.Masks.{maskBits, has, both, isNone, lowest}
+use Rattle.rules.specs.Masks.{mostNodes, has, both, isEmpty, lowest}
 use Rattle.rules.specs.Records.{Record, Turn, lastIs, Mode, default, preferred, bind, interleave, list, ring, early, unknownMode, modeOf}
 use Rattle.rules.specs.Records.{placesOf}
 
@@ -49,7 +49,7 @@ ringTries r = map (λ p. try (lastIs p) (nodeAt r p)) (around (r .len) (r .turn 
 -- "the target t is the lowest effective node above the last target, else the lowest effective one": the first effective one of all
 -- nodes from one past the last target, once round
 unfoldable pub target : ℕ → ℕ → Option ℕ
-target effective cursor = first (keep (has effective) (around maskBits cursor maskBits))
+target effective cursor = first (keep (has effective) (around mostNodes cursor mostNodes))
 
 -- "Interleave: .. then near(t)"; "Interleave then sets the cursor to the target, even where another node served"
 unfoldable pub interleaved : ℕ → Option ℕ → Plan
@@ -59,7 +59,7 @@ interleaved limit (some t) = nearest limit t (lastIs t)
 -- "Search order", mode by mode. `limit` is the set of nodes that the job may get, x the CPU's node.
 unfoldable pub planIn : Mode → ℕ → Record → ℕ → Plan
 planIn default limit r x = nearest limit x (r .turn)
-planIn preferred limit r x = nearest limit (cond (isNone (r .user)) x (lowest maskBits (r .effective))) (r .turn)
+planIn preferred limit r x = nearest limit (cond (isEmpty (r .user)) x (lowest mostNodes (r .effective))) (r .turn)
 planIn bind limit r x = nearest (both limit (r .effective)) x (r .turn)
 planIn interleave limit r x = interleaved limit (target (r .effective) (r .turn .cursor))
 planIn list limit r x = placed (map (try (r .turn)) (placesOf r))
@@ -69,7 +69,7 @@ planIn unknownMode limit r x = placed []
 
 -- "Default, and any mode with static and an empty effective set: near(CPU's node)"
 unfoldable pub modeInForce : Record → Mode
-modeInForce r = cond (eqb (r .flag) 1 && isNone (r .effective)) default (modeOf (r .mode))
+modeInForce r = cond (eqb (r .flag) 1 && isEmpty (r .effective)) default (modeOf (r .mode))
 
 unfoldable pub plan : ℕ → Record → ℕ → Plan
 plan limit r x = planIn (modeInForce r) limit r x
@@ -88,7 +88,7 @@ unfoldable pub freePages : List ℕ → List ℕ → ℕ → List ℕ
 freePages counts ledger n = keep (λ p. eqb (getD ledger p 1) 0) (pagesOf counts n)
 
 unfoldable pub hasRoom : List ℕ → List ℕ → ℕ → Bool
-hasRoom counts ledger n = not (isEmpty (freePages counts ledger n))
+hasRoom counts ledger n = not (isNil (freePages counts ledger n))
 
 -- "grants its lowest free page": the page of node n that job j gets
 unfoldable pub pickPage : List ℕ → List ℕ → ℕ → ℕ → ℕ

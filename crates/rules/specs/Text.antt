@@ -4,9 +4,9 @@ use mathlib.Core.Bool.{Bool, true, false, not, _&&_, _||_, cond}
 use mathlib.Core.List.{List, [], _∷_, _++_, map}
 use lib.ListN.{length, getD}
 use lib.Dec.{leb, ltb, eqb}
-use Rattle.rules.specs.Basics.{all, any, keep, isEmpty, from, between, same}
+use Rattle.rules.specs.Basics.{all, any, keep, isNil, from, between, same}
 use Rattle.rules.specs.Machine.{nodesOk}
-use Rattle.rules.specs.Masks.{maskBits, has, below, maskOf, rank, size}
+use Rattle.rules.specs.Masks.{mostNodes, has, below, maskOf, rank, size}
 use Rattle.rules.specs.Decisions.{Decision, accept, unless, decided, Written, notWritten, written}
 
 -- the bytes `!`, `+`, `,` and `-`, and the word `all`
@@ -49,7 +49,7 @@ value ds = valueFrom 0 ds
 -- "Numbers have no leading zero (0 itself is fine) and lie below N": below a limit
 unfoldable pub isNumber : ℕ → List ℕ → Bool
 isNumber limit ds =
-    not (isEmpty ds) && all (between 48 57) ds && (eqb (length ds) 1 || not (eqb (getD ds 0 0) 48)) && ltb (value ds) limit
+    not (isNil ds) && all (between 48 57) ds && (eqb (length ds) 1 || not (eqb (getD ds 0 0) 48)) && ltb (value ds) limit
 
 -- "a number or a-b with a at most b": an item by its parts between dashes
 unfoldable pub isItem : ℕ → List (List ℕ) → Bool
@@ -94,7 +94,7 @@ formOk n allowed noText = true
 formOk n allowed allText = true
 formOk n allowed (items text) = isItems n text
 formOk n allowed (except text) = isItems n text
-formOk n allowed (ranks text) = isItems (size maskBits allowed) text
+formOk n allowed (ranks text) = isItems (size mostNodes allowed) text
 
 -- "`!` takes all nodes below N not named"; after `+` the nodes whose rank is named
 unfoldable pub formMask : ℕ → ℕ → Form → ℕ
@@ -143,7 +143,7 @@ commas (t ∷ u ∷ ts) = t ++ (comma ∷ commas (u ∷ ts))
 
 -- the text of a mask
 unfoldable pub textOf : ℕ → List ℕ
-textOf m = commas (map runText (runs (keep (has m) (from 0 maskBits))))
+textOf m = commas (map runText (runs (keep (has m) (from 0 mostNodes))))
 
 -- "N outside 1 to 64 is refusal 1, .. written bits at N or above 6": the text to be written
 unfoldable pub writeDecision : ℕ → ℕ → Decision (List ℕ)

@@ -8,16 +8,19 @@ use Rattle.book.proofs.perform.Statement.{statement}
 use Rattle.book.proofs.perform.Tie as tie
 
 release-at-requires : tie.Need-release-at-requires
-release-at-requires c κs = let k = c .before .before in release-ok _ _ (k .before .before .before .before .before .before .before .before .pre)
+release-at-requires c κs =
+    let k = c .before .before in
+    let s = k .before .before .before .before .before .before .before .before in
+    (release-ok _ _ (s .pre .0), s .pre .1)
 
 rebind-at-requires : tie.Need-rebind-at-requires
-rebind-at-requires c κs = let k = c .before in record-ok _ _ (k .before .before .before .before .before .before .before .before .pre)
+rebind-at-requires c κs = let k = c .before in record-ok _ _ (k .before .before .before .before .before .before .before .before .pre .0)
 
 install-at-requires : tie.Need-install-at-requires
-install-at-requires c κs = let k = c .before in record-ok _ _ (k .before .before .before .before .before .before .before .before .pre)
+install-at-requires c κs = let k = c .before in record-ok _ _ (k .before .before .before .before .before .before .before .before .pre .0)
 
 clear-at-requires : tie.Need-clear-at-requires
-clear-at-requires c κs = let k = c .before in record-ok _ _ (k .before .before .before .before .before .before .before .before .pre)
+clear-at-requires c κs = let k = c .before in record-ok _ _ (k .before .before .before .before .before .before .before .before .pre .0)
 
 returns : tie.Need-returns
 returns c x s =

@@ -52,6 +52,7 @@ returns-4 c =
       sym (known .before .has-job .ensures) ∙ not-false _ (known .if1 .left),
       lt-ltb _ _ (loaded .before .if2 .left),
       ap (wellFormed _) (sym (loaded .load .ensures)) ∙ sym (c .before .well-formed .ensures) ∙ not-false _ (c .if3 .left),
+      loaded .load .ensures,
     )
 
 pub admit-spec : {M : Type 1} → statement M

@@ -12,7 +12,7 @@ use Rattle.rules.specs.Machine.{Machine}
 use Rattle.rules.specs.Calls.{Tables, tablesOf, requestTablesOk}
 use Rattle.machine.specs.Tables.{machineOf}
 use Rattle.rules.proofs.Decisions.{accepted-some}
-use Rattle.rules.proofs.InOrder.{same-lengths-ok}
+use Rattle.rules.proofs.InOrder.{same-lengths-ok, release-ok, few-pages}
 use Rattle.replay.specs.Encoding.{callIn, callCount, callsOk, wordsOf}
 use Rattle.replay.proofs.Words.{part-words, words-whole, call-ok}
 use Rattle.replay.proofs.Run.{Done, begun, advance, tables-refused, calls-refused, room-refused, accepted, finished, stopped, fair-and-owned}
@@ -27,11 +27,11 @@ record Held (m : Machine) (pages₀ jobs₀ calls answers₀ : List ℕ) (n : �
   done : Done m (tablesOf pages₀ jobs₀) calls answers₀ i (tablesOf pages jobs) answers
 
 abbrev Inv-loop : tie.InvT-loop
-Inv-loop counts cpus distances pages₀ jobs₀ calls answers₀ n i₀ pages jobs answers i =
+Inv-loop counts cpus distances pages₀ jobs₀ calls answers₀ n starts i₀ pages jobs answers i =
     Held (machineOf counts cpus distances) pages₀ jobs₀ calls answers₀ n pages jobs answers i
 
 abbrev μ-loop : tie.MeasureT-loop
-μ-loop counts cpus distances pages₀ jobs₀ calls answers₀ n i₀ pages jobs answers i = n - i
+μ-loop counts cpus distances pages₀ jobs₀ calls answers₀ n starts i₀ pages jobs answers i = n - i
 
 -- what the replay is lent, at the place after the test of the tables
 abbrev start : tie.After-request-tables-ok Inv-loop μ-loop → tie.Start Inv-loop μ-loop
@@ -46,6 +46,13 @@ tables c = tablesOf (start c .args .pages .now) (start c .args .jobs .now)
 -- the place after that test, from the place past it
 abbrev asked : tie.Else1 Inv-loop μ-loop → tie.After-request-tables-ok Inv-loop μ-loop
 asked c = c .before
+
+-- the place past it, from the loop's head; and a round of the loop, from its end
+abbrev tested : tie.At-loop Inv-loop μ-loop → tie.Else1 Inv-loop μ-loop
+tested l = l .before .before .before .before .before
+
+abbrev round : tie.After-answer-word Inv-loop μ-loop → tie.In-loop Inv-loop μ-loop
+round c = let performed = c .before .before .before .before .before in performed .before .before .before .before .before .before .before
 
 -- past the first test the tables are in order, past the second the calls
 tables-ok : (c : tie.Else1 Inv-loop μ-loop) → requestTablesOk (machine (asked c)) (tables (asked c)) ≡ true
@@ -79,29 +86,30 @@ returns-3 c =
     (stopped (machine t) (tables t) (a .calls .now) (a .answers .now) 11
     (room-refused (machine t) (tables t) (a .calls .now) _ (tables-ok (c .before .before .before)) (calls-ok (c .before)) (c .if3 .taken)))
 
+starts-of-requires : tie.Need-starts-of-requires Inv-loop μ-loop
+starts-of-requires c κs = few-pages _ _ (release-ok _ _ (tables-ok (c .before .before .before)))
+
 loop-holds : tie.Need-loop-holds Inv-loop μ-loop
 loop-holds c = record { within = search needs; long-pages = refl; long-jobs = refl; long-answers = refl; done = begun _ _ _ _ }
 
 read-call-requires : tie.Need-read-call-requires Inv-loop μ-loop
 read-call-requires c κs =
     let l = c .before .before in
-    let words = start (asked (l .before .before .before .before)) .args .calls .now in
+    let words = start (asked (tested l)) .args .calls .now in
     ap length (part-words words (l .loop .i)) ∙ words-whole words (l .loop .i) (c .before .loop-test .taken)
 
 perform-requires : tie.Need-perform-requires Inv-loop μ-loop
 perform-requires c κs =
-    let l = c .before .before .before .before .before .before in
-    let tested = l .before .before .before .before in
-    same-lengths-ok _ (tables (asked tested)) _ (l .loop .inv .long-pages) (l .loop .inv .long-jobs) (tables-ok tested)
+    let l = c .before .before .before .before .before .before .before in
+    let ok = same-lengths-ok _ (tables (asked (tested l))) _ (l .loop .inv .long-pages) (l .loop .inv .long-jobs) (tables-ok (tested l)) in
+    (ok, l .before .starts-of .ensures)
 
 -- an index of a call fits a word: the answers have a place for it
-index-fits : (c : tie.After-answer-word Inv-loop μ-loop) → let l = c .before .before .before .before .before .before .before .before in
-    l .before .before .before .before .loop .i * 8 < 2 ^ 64
+index-fits : (c : tie.After-answer-word Inv-loop μ-loop) → round c .before .loop .i * 8 < 2 ^ 64
 index-fits c =
-    let l = c .before .before .before .before .before .before .before .before in
-    let h = l .before .before .before .before in
-    let s = start (asked (h .before .before .before .before)) in
-    let n : h .loop .i < callCount (s .args .calls .now) = l .before .before .before .loop-test .taken in
+    let l = round c .before in
+    let s = start (asked (tested l)) in
+    let n : l .loop .i < callCount (s .args .calls .now) = round c .loop-test .taken in
     search (needs, s .good)
 
 mul-answers : tie.Need-mul-answers Inv-loop μ-loop
@@ -113,18 +121,18 @@ add-i c = omega (arith, index-fits c)
 loop-again : tie.Need-loop-again Inv-loop μ-loop
 loop-again c =
     let done = c .before .before .before .before .before in
-    let read = done .before .before .before .before in
-    let l = read .before .before .before in
-    let t = asked (l .before .before .before .before) in
+    let read = done .before .before .before .before .before in
+    let l = round c .before in
+    let t = asked (tested l) in
     let words = start t .args .calls .now in
     let h = l .loop in
-    let more : h .i < callCount words = read .before .before .loop-test .taken in
-    let x = accepted-some (callIn (wordsOf words (h .i))) (call-ok words (h .i) (calls-ok (l .before .before)) more) in
+    let more : h .i < callCount words = round c .loop-test .taken in
+    let x = accepted-some (callIn (wordsOf words (h .i))) (call-ok words (h .i) (calls-ok (l .before .before .before)) more) in
     let says = read .read-call .ensures (x .0) (ap callIn (part-words words (h .i)) ∙ x .1) in
     record {
       within = search needs;
-      long-pages = done .perform .kept .1 .1 .1 .0 ∙ h .inv .long-pages;
-      long-jobs = done .perform .kept .1 .1 .1 .1 .0 ∙ h .inv .long-jobs;
+      long-pages = done .perform .kept .1 .1 .1 .1 .0 ∙ h .inv .long-pages;
+      long-jobs = done .perform .kept .1 .1 .1 .1 .1 .0 ∙ h .inv .long-jobs;
       long-answers = simp length-set (h .inv .long-answers);
       done = advance (machine t) (tables t) words (start t .args .answers .now) (h .i) _ _ (x .0) _ _ _ (x .1) (omega arith) (h .inv .done)
           (done .perform .ensures (x .0) says) (c .answer-word .ensures);
@@ -141,20 +149,20 @@ same-length-9 c = c .before .loop .inv .long-answers
 
 returns-4 : tie.Need-returns-4 Inv-loop μ-loop
 returns-4 c =
-    let run = c .before .before in
-    let tested = run .before .before .before in
-    let t = asked tested in
+    let run = c .before .before .before in
+    let past = run .before .before .before in
+    let t = asked past in
     let a = start t .args in
     let h = c .before .loop in
     let all : h .i ≡ callCount (a .calls .now) = omega arith in
     fair-and-owned (machine t) (tables t) (a .calls .now) (a .answers .now) _ _ _
     (finished (machine t) (tables t) (a .calls .now) (a .answers .now) _ _
-    (accepted (machine t) (tables t) (a .calls .now) _ (tables-ok tested) (calls-ok (run .before)) (run .if3 .left)) (rw all at (h .inv .done)))
+    (accepted (machine t) (tables t) (a .calls .now) _ (tables-ok past) (calls-ok (run .before)) (run .if3 .left)) (rw all at (h .inv .done)))
 
 pub replay-spec : {M : Type 1} → statement M
 replay-spec =
     tie.close
     (tie.spec Inv-loop μ-loop (search needs) (search needs) (search needs) returns (search needs) (search needs) (search needs) returns-2 (search needs)
-    (search needs) returns-3 loop-holds (search needs) (search needs) (search needs) (search needs) (search needs) (search needs) read-call-requires
-    perform-requires (search needs) mul-answers (λ c. search needs) add-i (λ c. search needs) loop-again same-length-7
+    (search needs) returns-3 starts-of-requires loop-holds (search needs) (search needs) (search needs) (search needs) (search needs) (search needs)
+    read-call-requires perform-requires (search needs) mul-answers (λ c. search needs) add-i (λ c. search needs) loop-again same-length-7
     same-length-8 same-length-9 returns-4)

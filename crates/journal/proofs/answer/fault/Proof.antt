@@ -5,9 +5,6 @@ use Rattle.rules.specs.Journal.{faulty}
 use Rattle.journal.proofs.answer.fault.Statement.{statement}
 use Rattle.journal.proofs.answer.fault.Tie as tie
 
-returns : tie.Need-returns
-unfolding faulty
-returns c = c .line .ensures
-
 pub fault-spec : {M : Type 1} → statement M
-fault-spec = tie.close (tie.spec (search needs) returns)
+unfolding faulty
+fault-spec = tie.close (tie.spec (search needs) (λ c. c .line .ensures))

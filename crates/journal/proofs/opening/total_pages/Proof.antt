@@ -17,19 +17,11 @@ lent c =
     let s = c .before .before .before in
     cut (s .args .bytes .now) (c .page-counts .result) (s .pre .0) (c .before .byte-at .ensures .0) (search needs) (c .page-counts .ensures)
 
-array-share-prefix-all : tie.Need-array-share-prefix-all
-array-share-prefix-all c = lent c .inside
-
-slice-aggregate-total-pages : tie.Need-slice-aggregate-total-pages
-slice-aggregate-total-pages c = lent (c .before) .long
-
-total-pages-requires : tie.Need-total-pages-requires
-total-pages-requires c κs = omega (arith, lent (c .before) .few)
-
 returns : tie.Need-returns
 returns c = c .total-pages .ensures ∙ ap sum (lent (c .before .before) .counts)
 
 pub total-pages-spec : {M : Type 1} → statement M
 total-pages-spec =
     tie.close
-    (tie.spec byte-at-requires (λ c κs. search needs) array-share-prefix-all slice-aggregate-total-pages total-pages-requires returns)
+    (tie.spec byte-at-requires (λ c κs. search needs) (λ c. lent c .inside) (λ c. lent (c .before) .long)
+    (λ c κs. omega (arith, lent (c .before) .few)) returns)

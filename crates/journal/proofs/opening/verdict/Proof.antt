@@ -29,24 +29,15 @@ returns : tie.Need-returns
 unfolding opening
 returns c = rw (sym (c .before .head-ok .ensures) ∙ not-true _ (c .if1 .taken))
 
-counts-ok-requires : tie.Need-counts-ok-requires
-counts-ok-requires c κs = head-long _ (head c)
-
 returns-2 : tie.Need-returns-2
 unfolding opening
 returns-2 c = rw (head (c .before .before), sym (c .before .counts-ok .ensures) ∙ not-true _ (c .if2 .taken))
-
-machine-size-requires : tie.Need-machine-size-requires
-machine-size-requires c κs = head-long _ (head (c .before .before))
 
 returns-3 : tie.Need-returns-3
 unfolding opening
 returns-3 c =
     let counted = c .before .before in
     rw (head (counted .before .before), counts counted, sym (c .before .machine-size .ensures), lt-leb _ _ (c .if3 .taken))
-
-machine-ok-requires : tie.Need-machine-ok-requires
-machine-ok-requires c κs = (counts (c .before .before), omega arith)
 
 returns-4 : tie.Need-returns-4
 unfolding opening
@@ -71,5 +62,5 @@ returns-5 c =
 pub verdict-spec : {M : Type 1} → statement M
 verdict-spec =
     tie.close
-    (tie.spec (search needs) returns counts-ok-requires returns-2 machine-size-requires returns-3 machine-ok-requires returns-4
-    returns-5)
+    (tie.spec (search needs) returns (λ c κs. head-long _ (head c)) returns-2 (λ c κs. head-long _ (head (c .before .before)))
+    returns-3 (λ c κs. (counts (c .before .before), omega arith)) returns-4 returns-5)

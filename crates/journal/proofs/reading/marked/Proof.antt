@@ -6,9 +6,6 @@ use borrow.Author.Needs.{needs}
 use Rattle.journal.proofs.reading.marked.Statement.{statement}
 use Rattle.journal.proofs.reading.marked.Tie as tie
 
-returns : tie.Need-returns
-unfolding marked
-returns c = refl
-
 pub marked-spec : {M : Type 1} → statement M
-marked-spec = tie.close (tie.spec (search needs) (search needs) returns)
+unfolding marked
+marked-spec = tie.close (tie.spec (search needs) (search needs) (λ c. refl))

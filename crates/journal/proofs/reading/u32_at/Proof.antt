@@ -6,8 +6,8 @@ use borrow.Author.Needs.{needs}
 use Rattle.journal.proofs.reading.u32_at.Statement.{statement}
 use Rattle.journal.proofs.reading.u32_at.Tie as tie
 
-returns : tie.Need-returns
-returns c = two-halves _ 2 _ (omega arith) (omega arith) (omega arith) (c .before .u16-at .ensures) (c .u16-at2 .ensures)
-
 pub u32-at-spec : {M : Type 1} → statement M
-u32-at-spec = tie.close (tie.spec (search needs) (search needs) (search needs) (search needs) (search needs) returns)
+u32-at-spec =
+    tie.close
+    (tie.spec (search needs) (search needs) (search needs) (search needs) (search needs)
+    (λ c. two-halves _ 2 _ (omega arith) (omega arith) (omega arith) (c .before .u16-at .ensures) (c .u16-at2 .ensures)))

@@ -5,9 +5,6 @@ use Rattle.rules.specs.Journal.{sizeOf}
 use Rattle.journal.proofs.record.size_of.Statement.{statement}
 use Rattle.journal.proofs.record.size_of.Tie as tie
 
-returns : tie.Need-returns
-unfolding sizeOf
-returns c = refl
-
 pub size-of-spec : {M : Type 1} → statement M
-size-of-spec = tie.close (tie.spec returns)
+unfolding sizeOf
+size-of-spec = tie.close (tie.spec (λ c. refl))

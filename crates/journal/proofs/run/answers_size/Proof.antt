@@ -40,12 +40,6 @@ next c =
     let good = is-good _ _ (c .before .read .given .1) (read (reader c)) in
     (counted-next (l .loop .inv) (good .is), good-record _ (good .is) .least)
 
-add-at : tie.Need-add-at Inv-loop μ-loop
-add-at c = let n = next c in search needs
-
-loop-less : tie.Need-loop-less Inv-loop μ-loop
-loop-less c = let n = next c in omega (arith, n .0 .within)
-
 returns : tie.Need-returns Inv-loop μ-loop
 returns c =
     let r = c .before .before in
@@ -56,5 +50,5 @@ pub answers-size-spec : {M : Type 1} → statement M
 answers-size-spec =
     tie.close
     (tie.spec Inv-loop μ-loop (λ c. counted-none _) (search needs) (search needs) (search needs) (search needs) (search needs)
-    (search needs) add-at loop-less (λ c. next c .0) (search needs) returns
-    (λ c. counted-all (c .before .loop .inv) (c .loop-test .left)))
+    (search needs) (λ c. let n = next c in search needs) (λ c. let n = next c in omega (arith, n .0 .within)) (λ c. next c .0)
+    (search needs) returns (λ c. counted-all (c .before .loop .inv) (c .loop-test .left)))

@@ -1,10 +1,13 @@
 -- `run_part` lends the machine that the machine record says.
 -- Assumes nothing.
 use mathlib.Core.Path.{_≡_}
+use mathlib.Core.Bool.{true}
 use native.Mathlib.Omega.{arith}
 use borrow.Author.Needs.{needs}
 use lib.ListN.{take}
+use Rattle.rules.specs.Calls.{tablesOf, requestTablesOk}
 use Rattle.rules.specs.Journal.{machineSize, machineIn}
+use Rattle.rules.proofs.InOrder.{release-ok, few-pages}
 use Rattle.machine.specs.Tables.{machineOf}
 use Rattle.journal.proofs.MachineRecord.{Good, good-opening, head-in, Cut, cut}
 use Rattle.journal.proofs.run.run_part.Statement.{statement}
@@ -33,20 +36,30 @@ machine : (c : tie.After-distance-bytes) → let n = c .before .before .before i
     ≡ machineIn (start (n .before) .args .opening .now)
 machine c = rw (lent (c .before .before .before) .counts, c .before .cpu-bytes .ensures, c .distance-bytes .ensures)
 
+-- the tables are in order
+in-order : (c : tie.After-distance-bytes) → let n = c .before .before .before in let s = start (n .before) in
+    let counts = take (n .before .byte-at .result) (n .page-counts .result) in
+    requestTablesOk (machineOf counts (c .before .cpu-bytes .result .now) (c .distance-bytes .result .now))
+    (tablesOf (s .args .pages .now) (s .args .jobs .now)) ≡ true
+in-order c = rw (machine c) (start (c .before .before .before .before) .pre .tables)
+
+starts-of-requires : tie.Need-starts-of-requires
+starts-of-requires c κs = few-pages _ _ (release-ok _ _ (in-order c))
+
 run-records-requires : tie.Need-run-records-requires
 run-records-requires c κs =
-    let m = c .before .before .before in
-    rw (machine m) (start (m .before .before .before .before) .pre .tables)
+    let made = c .before .before .before .before in
+    (in-order (made .before), made .starts-of .ensures)
 
 returns : tie.Need-returns
 returns c =
     let ran = c .before .before .before .before .before .before in
-    rw (machine (ran .before .before .before .before)) at (ran .run-records .ensures)
+    rw (machine (ran .before .before .before .before .before .before)) at (ran .run-records .ensures)
 
 pub run-part-spec : {M : Type 1} → statement M
 run-part-spec =
     tie.close
     (tie.spec byte-at-requires (λ c κs. let g = good (start c) in (g .counted, g .whole)) (λ c. lent c .inside)
     (λ c. lent (c .before) .long) (λ c κs. good (start (c .before .before)) .whole)
-    (λ c κs. good (start (c .before .before .before)) .whole) run-records-requires (search needs) (search needs) (search needs)
+    (λ c κs. good (start (c .before .before .before)) .whole) starts-of-requires run-records-requires (search needs) (search needs) (search needs)
     returns)

@@ -27,7 +27,7 @@ places-in-requires : tie.Need-places-in-requires
 places-in-requires c κs = let g = good-record _ (good (c .before) .is) in omega (arith, g .least, g .within)
 
 perform-requires : tie.Need-perform-requires
-perform-requires c κs = let found = c .before .before .before .before in start (reader found) .pre .0
+perform-requires c κs = let found = c .before .before .before .before in let s = start (reader found) in (s .pre .0, s .pre .1)
 
 returns : tie.Need-returns
 returns c =
@@ -50,5 +50,6 @@ returns-2 c =
 pub run-record-spec : {M : Type 1} → statement M
 run-record-spec =
     tie.close
-    (tie.spec (search needs) (search needs) places-in-requires perform-requires (search needs) (search needs) (search needs) (search needs)
-    (search needs) (search needs) (search needs) (search needs) (search needs) (search needs) returns (search needs) returns-2)
+    (tie.spec (search needs) (search needs) places-in-requires perform-requires (search needs) (search needs) (search needs)
+    (search needs) (search needs) (search needs) (search needs) (search needs) (search needs) (search needs) returns (search needs)
+    returns-2)

@@ -6,7 +6,7 @@ use lib.ListN.{drop}
 use native.Mathlib.Omega.{arith}
 use borrow.Author.Needs.{needs}
 use Rattle.rules.specs.Decisions.{Decision, accept}
-use Rattle.rules.specs.Masks.{maskBits, size}
+use Rattle.rules.specs.Masks.{mostNodes, size}
 use Rattle.rules.proofs.Masks.{rank-le}
 use Rattle.nodelist.specs.Reader.{numbersRead, itemsRead}
 use Rattle.nodelist.proofs.FormLaws.{past-mark}
@@ -18,7 +18,7 @@ read-items-requires c κs = omega (arith, c .size .ensures, rank-le (c .before .
 
 -- the items past the mark
 told : (c : tie.After-read-items) → let a = c .before .before .before .before .args in
-    numbersRead (c .read-items .result) ≡ itemsRead (size maskBits (a .allowed .0)) (drop 1 (a .text .now))
+    numbersRead (c .read-items .result) ≡ itemsRead (size mostNodes (a .allowed .0)) (drop 1 (a .text .now))
 told c =
     let a = c .before .before .before .before .args in
     c .read-items .ensures ∙ ap₂ itemsRead (c .before .size .ensures) (past-mark (a .text .now))

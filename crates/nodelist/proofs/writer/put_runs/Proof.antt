@@ -69,5 +69,5 @@ pub put-runs-spec : {M : Type 1} → statement M
 put-runs-spec =
     tie.close
     (tie.spec
-    Inv-loop μ-loop loop-holds next-run-requires (search needs) put-run-requires add-at loop-less loop-again (search needs) returns
+    Inv-loop μ-loop loop-holds (search needs) next-run-requires (search needs) put-run-requires add-at loop-less loop-again (search needs) returns
     returns-2)

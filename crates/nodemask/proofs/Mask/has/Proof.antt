@@ -23,4 +23,4 @@ returns-2 c =
 
 pub has-spec : {M : Type 1} → statement M
 has-spec =
-    tie.close (tie.spec (search needs) (search needs) returns returns-2)
+    tie.close (tie.spec (search needs) (search needs) (search needs) returns returns-2)

@@ -33,8 +33,8 @@ below-64 c =
     let n = c .lowest .result .0 in
     omega (arith, c .lowest .ensures, lowest-is 64 m (omega arith) (omega arith) .small, rank-le (c .before .before .before .before .args .set .0) n)
 
-with-requires : tie.Need-with-requires Inv-loop μ-loop
-with-requires c κs = omega (arith, c .rank .ensures, below-64 (c .before))
+insert-requires : tie.Need-insert-requires Inv-loop μ-loop
+insert-requires c κs = omega (arith, c .rank .ensures, below-64 (c .before))
 
 loop-less : tie.Need-loop-less Inv-loop μ-loop
 loop-less c =
@@ -48,9 +48,9 @@ loop-again c =
     let m = l .left .0 in
     let t = c .before .before .before .lowest .ensures in
     let small : c .before .before .rank .result .0 < 64 = omega (arith, c .before .before .rank .ensures, below-64 (c .before .before .before)) in (
-      rw (c .before .with .ensures) (insert-lt 64 (l .out .0) (c .before .before .rank .result .0) (l .inv .0) small),
+      rw (c .before .insert .ensures) (insert-lt 64 (l .out .0) (c .before .before .rank .result .0) (l .inv .0) small),
       gathered-more (a .self .0) (rank (a .set .0)) m (l .out .0) (lowest 64 m) (lowest-is 64 m (omega arith) (omega arith) .member)
-          (c .before .before .rank .ensures ∙ ap (rank (a .set .0)) t) (c .before .with .ensures) (c .rest .ensures) (l .inv .1),
+          (c .before .before .rank .ensures ∙ ap (rank (a .set .0)) t) (c .before .insert .ensures) (c .rest .ensures) (l .inv .1),
     )
 
 returns : tie.Need-returns Inv-loop μ-loop
@@ -65,4 +65,4 @@ pub ranks-in-spec : {M : Type 1} → statement M
 ranks-in-spec =
     tie.close
     (tie.spec
-    Inv-loop μ-loop loop-holds (search needs) rank-requires with-requires (search needs) loop-less loop-again returns)
+    Inv-loop μ-loop loop-holds (search needs) rank-requires insert-requires (search needs) loop-less loop-again returns)

@@ -39,4 +39,4 @@ pub wrapped-spec : {M : Type 1} → statement M
 wrapped-spec =
     tie.close
     (tie.spec
-    Inv-loop μ-loop loop-holds (search needs) (search needs) (search needs) (search needs) loop-again (search needs) returns)
+    Inv-loop μ-loop loop-holds (search needs) (search needs) (search needs) loop-again (search needs) returns)

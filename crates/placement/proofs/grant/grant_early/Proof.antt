@@ -14,7 +14,7 @@ grant-early-spec =
     tie.close
     (tie.spec
     (search needs)
-    (search needs)
+    (λ c κs. c .before .before .before .before .pre)
     (search needs)
     (λ c. rw (c .before .before .before .before .if1 .taken) (c .before .before .grant-place .ensures))
     (λ c. rw (c .if1 .left) (granted-none _ _ _)))

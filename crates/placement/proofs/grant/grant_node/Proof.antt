@@ -1,10 +1,12 @@
 -- `grant::grant_node` meets its contract: what the picker did in the node's part, told of the whole table.
 -- Assumes nothing.
 use Prim.Native.Nat.{_+_, _-_}
+use mathlib.Core.Path.{_≡_}
 use native.Mathlib.Omega.{arith}
 use native.Mathlib.Nat.{add-sub-cancel-left}
 use lib.ListN.{getD}
 use borrow.Author.Needs.{needs}
+use Rattle.rules.specs.Machine.{firstPage}
 use Rattle.rules.specs.SearchOrder.{try}
 use Rattle.records.specs.Jobs.{turnOf}
 use Rattle.pages.specs.FirstZero.{offsetOf}
@@ -12,38 +14,39 @@ use Rattle.placement.proofs.Grants.{node-end, Picked, picked}
 use Rattle.placement.proofs.grant.grant_node.Statement.{statement}
 use Rattle.placement.proofs.grant.grant_node.Tie as tie
 
+-- the first page of the node
+first-is : (s : tie.Start) → getD (s .args .starts .now) (s .args .node .0) 0 ≡ firstPage (s .args .counts .now) (s .args .node .0)
+first-is s = s .pre .0 .begin .at (s .args .node .0) (omega (arith, s .pre .1))
+
 cast-end : tie.Need-cast-end
 cast-end c = omega (arith, c .shared-slice-known2 .given (c .before .before .before .before .before .before .args .node .0))
 
 add-end : tie.Need-add-end
 add-end c =
-    let a = c .before .before .before .before .before .before .args in
-    omega (arith, node-end (a .counts .now) (a .node .0))
+    let s = c .before .before .before .before .before .before in
+    omega (arith, first-is s, node-end (s .args .counts .now) (s .args .node .0))
 
 part-pick-end : tie.Need-part-pick-end
 part-pick-end c =
-    let a = c .before .before .before .before .before .before .args in
-    omega (arith, node-end (a .counts .now) (a .node .0))
+    let s = c .before .before .before .before .before .before in
+    omega (arith, first-is s, node-end (s .args .counts .now) (s .args .node .0))
 
 -- what the picker leaves, told of the whole table
 told : (c : tie.After-pick) →
-    let known = c .before .before .before .before .before in
-    let a = known .before .before .before .args in
-    let s = known .first-page .result .0 in
+    let a = c .before .before .before .before .before .before .before .before .args in
+    let s = getD (a .starts .now) (a .node .0) 0 in
     Picked (a .counts .now) (a .pages .now) (a .job) (try (turnOf (a .cursor)) (a .node .0)) s
     (s + getD (a .counts .now) (a .node .0) 0 - s) (offsetOf (c .pick .result)) (c .pick .last .0)
 told c =
-    let known = c .before .before .before .before .before in
-    let start = known .before .before .before in
-    picked _ _ _ _ _ _ _ _ (start .pre .0 .fits) (known .first-page .ensures) (add-sub-cancel-left _ _) (c .pick .ensures .0) (c .pick .ensures .1)
+    let start = c .before .before .before .before .before .before .before .before in
+    picked _ _ _ _ _ _ _ _ (start .pre .0 .fits) (first-is start) (add-sub-cancel-left _ _) (c .pick .ensures .0) (c .pick .ensures .1)
 
 after-requires : tie.Need-after-requires
 after-requires c κs =
     let found = c .before .before .before .before .before in
-    let known = found .before .before .before .before .before in
-    let start = known .before .before .before in
+    let start = found .before .before .before .before .before .before .before .before in
     let inside = rw (c .before .found .given .1) at (told found .inside) in
-    omega (arith, inside, known .first-page .ensures, node-end (start .args .counts .now) (start .args .node .0), start .pre .0 .pages)
+    omega (arith, inside, first-is start, node-end (start .args .counts .now) (start .args .node .0), start .pre .0 .pages)
 
 returns : tie.Need-returns
 returns c =
@@ -61,6 +64,7 @@ pub grant-node-spec : {M : Type 1} → statement M
 grant-node-spec =
     tie.close
     (tie.spec
+    (search needs)
     (search needs)
     (search needs)
     (search needs)

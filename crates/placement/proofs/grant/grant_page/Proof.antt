@@ -11,7 +11,7 @@ grant-near-requires c κs =
     let planned = c .before .before .before .before in
     let s = planned .before .before .before .before .before in
     let inside = rw (c .before .before .plan .given .1) at (planned .of .ensures .1) in
-    (s .pre .ready, record { square = s .pre .square; set-below = inside .0; from-node = inside .1 })
+    (s .pre .ready, record { few = s .pre .plannable .few; table = s .pre .table; set-below = inside .0; from-node = inside .1 })
 
 grant-places-requires : tie.Need-grant-places-requires
 grant-places-requires c κs =

@@ -9,6 +9,11 @@ use Rattle.placement.proofs.Grants.{granted-none}
 use Rattle.placement.proofs.grant.grant_place.Statement.{statement}
 use Rattle.placement.proofs.grant.grant_place.Tie as tie
 
+grant-node-requires : tie.Need-grant-node-requires
+grant-node-requires c κs =
+    let known = c .before .before .before in
+    (known .before .before .before .before .pre, known .if1 .taken)
+
 returns : tie.Need-returns
 unfolding tried keep
 returns c =
@@ -27,4 +32,4 @@ returns-3 c = rw (le-ltb _ _ (c .if1 .left)) (granted-none _ _ _)
 pub grant-place-spec : {M : Type 1} → statement M
 grant-place-spec =
     tie.close
-    (tie.spec (search needs) (search needs) (search needs) (search needs) returns returns-2 returns-3)
+    (tie.spec (search needs) (search needs) grant-node-requires (search needs) returns returns-2 returns-3)

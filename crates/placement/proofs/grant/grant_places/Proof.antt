@@ -5,6 +5,14 @@ use Rattle.placement.proofs.Grants.{granted-first, granted-rest, walk-t
 use Rattle.placement.proofs.grant.grant_places.Statement.{statement}
 use Rattle.placement.proofs.grant.grant_places.Tie as tie
 
+grant-round-requires : tie.Need-grant-round-requires
+grant-round-requires c κs =
+    let full = c .before in
+    let granted = full .before .before .before .before in
+    let s = granted .before .before .before .before in
+    let none = rw (full .enum-told .given .1) at (granted .grant-early .ensures) in
+    (rw (none .table) (s .pre .0), s .pre .1, s .pre .2)
+
 returns : tie.Need-returns
 returns c =
     let granted = c .before .before .before .before .before in
@@ -20,10 +28,10 @@ pub grant-places-spec : {M : Type 1} → statement M
 grant-places-spec =
     tie.close
     (tie.spec
+    (λ c κs. c .before .before .before .pre .0)
     (search needs)
     (search needs)
-    (search needs)
-    (search needs)
+    grant-round-requires
     (search needs)
     returns
     (search needs)

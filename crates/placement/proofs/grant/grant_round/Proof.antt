@@ -22,13 +22,13 @@ abbrev rest : ℕ → ℕ → Walk → List ℕ → ℕ → ℕ → List Try
 rest n limit walk places position left = tried n limit (roundTries (walk .moves) places (turnOf (walk .cursor)) (walk .len) position left)
 
 abbrev Inv-loop : tie.InvT-loop
-Inv-loop counts pages₀ limit walk job places position₀ left₀ pages position left =
+Inv-loop counts starts pages₀ limit walk job places position₀ left₀ pages position left =
     (pages ≡ pages₀) × (position ≤ walk .len) × (left ≤ walk .len)
     × ((g : Grant) (after : List ℕ) → Granted counts pages₀ job (rest (length counts) (limit .0) walk places position left) g after
     → Granted counts pages₀ job (rest (length counts) (limit .0) walk places (walk .cursor) (walk .len)) g after)
 
 abbrev μ-loop : tie.MeasureT-loop
-μ-loop counts pages₀ limit walk job places position₀ left₀ pages position left = left
+μ-loop counts starts pages₀ limit walk job places position₀ left₀ pages position left = left
 
 loop-holds : tie.Need-loop-holds Inv-loop μ-loop
 loop-holds c = (refl, search needs, search needs, λ g after h. h)
@@ -59,9 +59,9 @@ next : (c : tie.After-cursor-after Inv-loop μ-loop) →
     let a = going .before .before .before .before .args in
     let l = going .before .loop in
     let p = placed .place-at .result .0 in
-    rest (length (a .counts .now)) (a .limit .0) (a .walk) (a .t4) (l .position) (l .left)
-    ≡ tried (length (a .counts .now)) (a .limit .0) (try (turnOf (c .cursor-after .result)) (getD (a .t4) p 0) ∷ [])
-    ++ rest (length (a .counts .now)) (a .limit .0) (a .walk) (a .t4) (p + 1) (l .left - 1)
+    rest (length (a .counts .now)) (a .limit .0) (a .walk) (a .t5) (l .position) (l .left)
+    ≡ tried (length (a .counts .now)) (a .limit .0) (try (turnOf (c .cursor-after .result)) (getD (a .t5) p 0) ∷ [])
+    ++ rest (length (a .counts .now)) (a .limit .0) (a .walk) (a .t5) (p + 1) (l .left - 1)
 next c =
     let placed = c .before .before .before in
     round-step _ _ _ _ _ _ _ _ _ _ (placed .before .loop-test .taken) (placed .place-at .ensures) (c .cursor-after .ensures)

@@ -8,22 +8,15 @@ use Rattle.records.specs.Jobs.{recordOf}
 use Rattle.records.proofs.table.load.Statement.{statement}
 use Rattle.records.proofs.table.load.Tie as tie
 
-cast-t21 : tie.Need-cast-t21
-cast-t21 c = let first = c .before .before .before .before .before .before .before in omega (arith, first .shared-slice-known2 .given 0)
+cast-t17 : tie.Need-cast-t17
+cast-t17 c = omega (arith, c .before .before .before .before .shared-slice-known2 .given 0)
 
 returns : tie.Need-returns
 unfolding recordOf recordAt decode
 returns c =
-    let mode = c .before .before .before .before .before .before in
-    rw (
-      mode .byte .ensures,
-      c .before .before .before .before .before .byte2 .ensures,
-      c .before .before .before .before .byte3 .ensures,
-      c .before .before .before .byte4 .ensures,
-      mode .before .unpack .ensures,
-      add-sub-cancel-left,
-      div-one,
-    )
+    let cursor = c .before .before .before .before .before in
+    let mode = cursor .before .before .before in
+    rw (mode .byte .ensures, cursor .before .before .byte2 .ensures, cursor .before .byte3 .ensures, cursor .byte4 .ensures, add-sub-cancel-left, div-one)
 
 pub load-spec : {M : Type 1} → statement M
 load-spec =
@@ -40,10 +33,9 @@ load-spec =
     (search needs)
     (search needs)
     (search needs)
+    cast-t17
     (search needs)
     (search needs)
-    (search needs)
-    cast-t21
     (search needs)
     (search needs)
     (search needs)

@@ -10,7 +10,7 @@ use borrow.Author.Needs.{needs}
 use borrow.Author.Tests.{eqb-true, eqb-false}
 use lib.Bits.{and-le-l}
 use lib.ListN.{length}
-use Rattle.rules.specs.Masks.{maskBits}
+use Rattle.rules.specs.Masks.{mostNodes}
 use Rattle.rules.specs.Records.{Record, aMask, rowOf, carries, modeOf, cursorLimit, placesPerJob}
 use Rattle.rules.specs.SearchOrder.{Try, try, nearest, placed, target, planIn, plan}
 use Rattle.rules.proofs.WellFormed.{Formed, formed, carries-list}
@@ -32,7 +32,7 @@ unfolding jobOf
 known s e = formed _ _ (rw e at (s .pre .formed))
 
 -- a mode with masks, and no effective node: near(CPU's node)
-local : (s : tie.Start) {m : Mode} → s .args .job .mode ≡ m → carries (modeOf (held s m .mode)) ≡ aMask → held s m .user < 2 ^ maskBits
+local : (s : tie.Start) {m : Mode} → s .args .job .mode ≡ m → carries (modeOf (held s m .mode)) ≡ aMask → held s m .user < 2 ^ mostNodes
     → held s m .effective ≡ 0
     → (nearest (s .args .limit .0) (s .args .x .0) (held s m .turn) ≡ plan (s .args .limit .0) (jobOf (s .args .job)) (s .args .x .0))
     × ((s .args .limit .0 < 2 ^ s .args .nodes) × (s .args .x .0 < s .args .nodes))
@@ -60,18 +60,17 @@ returns-2 c =
     let z = eqb-true _ 0 (sym (c .before .is-empty2 .ensures) ∙ c .if2 .taken) in
     local (told .before .before .before) (told .before .mode2 .given .1) refl (omega (arith, told .known-told2 .given)) z
 
-next-requires : tie.Need-next-requires
+target-requires : tie.Need-target-requires
 unfolding recordWith rowOf cursorLimit
-next-requires c κs =
+target-requires c κs =
     let s = c .before .before .before in
     omega (arith, known s (c .before .mode3 .given .1) .cursor-within, s .pre .few)
 
 -- the target of the effective mask
-aimed : (c : tie.After-next) →
+aimed : (c : tie.After-target) →
     let held = c .before .before .mode3 .given .0 in
-    foundNode (c .next .result) ≡ target (held .1 .1 .0 .0) (held .1 .1 .1 .0)
-unfolding target
-aimed c = c .next .ensures
+    foundNode (c .target .result) ≡ target (held .1 .1 .0 .0) (held .1 .1 .1 .0)
+aimed c = c .target .ensures
 
 add-t23 : tie.Need-add-t23
 unfolding recordWith
@@ -80,7 +79,7 @@ add-t23 c =
     let moded = found .before .before .before .before in
     let s = moded .before .before in
     let low = effective-lt (s .args .nodes) _ (s .pre .few) (known s (moded .mode3 .given .1)) in
-    omega (arith, target-below (s .args .nodes) _ _ low (sym (aimed (found .before .before)) ∙ ap foundNode (found .target .given .1)), s .pre .few)
+    omega (arith, target-below (s .args .nodes) _ _ low (sym (aimed (found .before .before)) ∙ ap foundNode (found .target2 .given .1)), s .pre .few)
 
 returns-3 : tie.Need-returns-3
 unfolding jobOf recordWith
@@ -111,7 +110,7 @@ returns-5 c =
     let s = moded .before .before in
     let e = moded .mode2 .given .1 in
     let d = eqb-false _ 0 (sym (c .before .before .is-empty2 .ensures) ∙ c .before .if2 .left) in
-    rw (e, c .and .ensures) (sym (bind-plan 0 _ _ _ d refl), (lt-of-le-of-lt (and-le-l _ _) (s .pre .limit-below), s .pre .from-node))
+    rw (e, c .both .ensures) (sym (bind-plan 0 _ _ _ d refl), (lt-of-le-of-lt (and-le-l _ _) (s .pre .limit-below), s .pre .from-node))
 
 -- interleave
 returns-6 : tie.Need-returns-6
@@ -122,7 +121,7 @@ returns-6 c =
     let moded = next .before .before in
     let s = moded .before .before in
     let e = moded .mode3 .given .1 in
-    let aim = sym (aimed next) ∙ ap foundNode (found .target .given .1) in
+    let aim = sym (aimed next) ∙ ap foundNode (found .target2 .given .1) in
     let low = effective-lt _ _ (s .pre .few) (known s e) in
     rw (e, add-one) (sym (interleave-plan 0 _ _ _ (some-target _ _ aim) refl aim), (s .pre .limit-below, target-below _ _ _ low aim))
 
@@ -184,7 +183,7 @@ of-spec =
     returns-2
     (search needs)
     (search needs)
-    next-requires
+    target-requires
     (search needs)
     add-t23
     (search needs)

@@ -16,6 +16,6 @@ effective-spec =
     (search needs)
     (search needs)
     (search needs)
-    (λ c. rw (c .before .enum-told .given .1) (c .and .ensures))
-    (λ c. rw (c .before .enum-told2 .given .1) (c .and2 .ensures))
+    (λ c. rw (c .before .enum-told .given .1) (c .both .ensures))
+    (λ c. rw (c .before .enum-told2 .given .1) (c .both2 .ensures))
     (λ c. rw (c .before .enum-told3 .given .1) (c .folded .ensures)))

@@ -18,5 +18,5 @@ rebound-spec =
     (search needs)
     (search needs)
     (λ c. λ n k ps. rw (c .before .enum-told .given .1, c .remapped .ensures))
-    (λ c. λ n k ps. rw (c .before .enum-told2 .given .1, c .and .ensures))
+    (λ c. λ n k ps. rw (c .before .enum-told2 .given .1, c .both .ensures))
     (λ c. λ n k ps. rw (c .before .enum-told3 .given .1, c .folded .ensures)))

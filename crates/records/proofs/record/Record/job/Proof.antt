@@ -8,7 +8,7 @@ use Rattle.records.proofs.record.Record.job.Tie as tie
 
 returns : tie.Need-returns
 unfolding jobOf recordWith recordOf
-returns c n w = rw (c .before .before .of .ensures n w, rest-zero n _ (formed n _ w))
+returns c n w = rw (c .before .before .of .ensures n w, c .unpack .ensures, rest-zero n _ (formed n _ w))
 
 pub job-spec : {M : Type 1} → statement M
-job-spec = tie.close (tie.spec (search needs) returns)
+job-spec = tie.close (tie.spec (search needs) (search needs) returns)
