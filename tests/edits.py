@@ -12,9 +12,13 @@ from pathlib import Path
 
 ROOT = Path(__file__).resolve().parent.parent
 LOGS = Path(sys.argv[1]) if len(sys.argv) > 1 else ROOT / "target" / "must-fail"
-# A function that needs no proof file is refused by a note: what it ensures is not proved.
-ERROR = re.compile(r"(?:: error: |: it is not proved that ).*")
-NO_FACT = ["not in scope", "has no `Need-", "has no field", "was not admitted"]
+# A function that needs no proof file is refused by a note: what it ensures is not proved. An error goes on in lines set in.
+ERROR = re.compile(r"(?:: error: |: it is not proved that ).*(?:\n  .*)*")
+NO_FACT = re.compile(
+    r"not in scope|has no `Need-|has no field|was not admitted"
+    # the proof speaks of another place of the code, or of another need
+    r"|Lts\.(?:After|At|In|Then|Else)[\w·-]*`|expected type `tie\.Need-"
+)
 
 
 def fault(log):
@@ -24,7 +28,7 @@ def fault(log):
     found = ERROR.search(log.read_text(encoding="utf-8"))
     if not found:
         return "no error in its log"
-    return found.group(0)[2:160] if any(words in found.group(0) for words in NO_FACT) else None
+    return found.group(0)[2:160] if NO_FACT.search(found.group(0)) else None
 
 
 def main():

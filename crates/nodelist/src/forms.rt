@@ -44,7 +44,7 @@ fn read_except(text: &[u8], nodes: usize) -> Decision
 {
     let items = read_items(&text[1..], nodes);
     match items {
-        Items::Named(named) => Decision::Accept(named.nodes().others(nodes).0),
+        Items::Named(named) => Decision::Accept(named.nodes().complement(nodes).0),
         Items::Bad => Decision::Refuse(Refusal::BadText),
     }
 }

@@ -140,7 +140,7 @@ impl Mask {
     }
 
     // The nodes below n that are not in the mask.
-    pub fn others(self, n: usize) -> Mask
+    pub fn complement(self, n: usize) -> Mask
         requires { ⌜ (n ≤ mostNodes) × (self .0 < 2 ^ n) ⌝ }
         ensures { λ r. ⌜ r .0 ≡ allNodes n - self .0 ⌝ }
     {

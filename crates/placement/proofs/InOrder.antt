@@ -2,7 +2,7 @@
 -- Assumes nothing.
 use Prim.Native.Nat.{ℕ, _%_}
 use mathlib.Core.Path.{_≡_}
-use mathlib.Core.Bool.{true, _&&_}
+use mathlib.Core.Bool.{true, false, _&&_}
 use mathlib.Core.List.{List}
 use native.Mathlib.Nat.{lt-of-lt-of-le}
 use borrow.Author.Tests.{leb-true, ltb-true}
@@ -26,6 +26,11 @@ request-tested m t h =
     let b = both-true (a .0) in
     let n = both-true {a = nodesOk (nodeCount m)} {b = pagesOk (m .pageCounts)} (b .0) in
     rw (n .0, n .1, b .1, a .1)
+
+-- of one that is not, nothing is
+pub request-untested : (m : Machine) (t : Tables) → machineOk m ≡ false → requestTablesOk m t ≡ false
+unfolding requestTablesOk
+request-untested m t h = rw h
 
 -- and of page counts in order
 pub release-tested : (counts : List ℕ) (t : Tables) → (nodesOk (length counts) && pagesOk counts) ≡ true

@@ -1,10 +1,14 @@
 // Requests and releases of single pages: document 01, "Search order" and "Refusal numbers".
 
-ghost use mathlib.Core.Bool.{true};
+ghost use mathlib.Core.Bool.{true, _&&_};
 ghost use mathlib.Core.Path.{_≡_};
+ghost use Prim.Native.Nat.{_≤_};
 ghost use lib.ListN.{length};
+ghost use Rattle.rules.specs.Basics.{sum};
+ghost use Rattle.rules.specs.Machine.{pageTableOk};
+ghost use Rattle.rules.specs.Masks.{mostNodes};
 ghost use Rattle.rules.specs.SearchOrder.{plan, order, chosen};
-ghost use Rattle.rules.specs.Calls.{tablesOf, outcome, applied, isJob, requestTablesOk, releaseTablesOk, admitted, serve, onRequest, onRelease};
+ghost use Rattle.rules.specs.Calls.{tablesOf, outcome, applied, isJob, requestTablesOk, releaseTablesOk, recordTablesOk, admitted, serve, onRequest, onRelease};
 ghost use Rattle.rules.specs.Answers.{answerOf};
 ghost use Rattle.machine.specs.Tables.{machineOf, Starts};
 ghost use Rattle.records.specs.Jobs.{recordOf};
@@ -25,30 +29,12 @@ pub mod plan;
 
 // ---- refusal 1
 
-// Are all tables that a request is lent in order?
-pub fn request_tables_ok(
-    counts: &[u32],
-    cpus: &[u8],
-    distances: &[u8],
-    pages: &[u8],
-    jobs: &[u64],
-) -> bool
-    ensures { λ r. ⌜ r ≡ requestTablesOk (machineOf (now (counts .entry)) (now (cpus .entry)) (now (distances .entry))) (tablesOf (now (pages .entry)) (now (jobs .entry))) ⌝ }
+// Are the page table and the job table in order, by their lengths, on page counts that are?
+pub fn lent_ok(counts: &[u32], starts: &[u32; MOST_NODES + 1], bytes: usize, words: usize) -> bool
+    requires { ⌜ (length (now counts) ≤ mostNodes) × (sum (now counts) ≤ 1048576) × Starts (now counts) (now starts) ⌝ }
+    ensures { λ r. ⌜ r ≡ (pageTableOk (now (counts .entry)) bytes && recordTablesOk (length (now (counts .entry))) words) ⌝ }
 {
-    if !machine::machine_ok(counts, cpus, distances) {
-        return false;
-    }
-    machine::page_table_ok(counts, pages.len()) & table::tables_ok(counts.len(), jobs.len())
-}
-
-// Are all tables that a release is lent in order?
-pub fn release_tables_ok(counts: &[u32], pages: &[u8], jobs: &[u64]) -> bool
-    ensures { λ r. ⌜ r ≡ releaseTablesOk (now (counts .entry)) (tablesOf (now (pages .entry)) (now (jobs .entry))) ⌝ }
-{
-    if !machine::page_counts_ok(counts) {
-        return false;
-    }
-    machine::page_table_ok(counts, pages.len()) & table::tables_ok(counts.len(), jobs.len())
+    machine::page_table_ok(counts, starts, bytes) & table::tables_ok(counts.len(), words)
 }
 
 // ---- request
@@ -157,10 +143,13 @@ pub fn request(
 ) -> Answer
     ensures { λ r. ⌜ outcome (answerOf r) (tablesOf (now (pages .exit)) (now (jobs .exit))) ≡ onRequest (machineOf (now (counts .entry)) (now (cpus .entry)) (now (distances .entry))) (tablesOf (now (pages .entry)) (now (jobs .entry))) job cpu ⌝ }
 {
-    if !request_tables_ok(counts, cpus, distances, pages, jobs) {
+    if !machine::machine_ok(counts, cpus, distances) {
         return Answer::Refused(Refusal::BadTables);
     }
     let starts = machine::starts_of(counts);
+    if !lent_ok(counts, &starts, pages.len(), jobs.len()) {
+        return Answer::Refused(Refusal::BadTables);
+    }
     request_at(counts, &starts, cpus, distances, pages, jobs, job, cpu)
 }
 
@@ -198,9 +187,12 @@ pub fn release_at(
 pub fn release(counts: &[u32], pages: &mut [u8], jobs: &[u64], job: usize, page: usize) -> Answer
     ensures { λ r. ⌜ outcome (answerOf r) (tablesOf (now (pages .exit)) (now (jobs .entry))) ≡ onRelease (now (counts .entry)) (tablesOf (now (pages .entry)) (now (jobs .entry))) job page ⌝ }
 {
-    if !release_tables_ok(counts, pages, jobs) {
+    if !machine::page_counts_ok(counts) {
         return Answer::Refused(Refusal::BadTables);
     }
     let starts = machine::starts_of(counts);
+    if !lent_ok(counts, &starts, pages.len(), jobs.len()) {
+        return Answer::Refused(Refusal::BadTables);
+    }
     release_at(counts, &starts, pages, jobs, job, page)
 }

@@ -33,7 +33,11 @@ pub fn replay(
     ensures fair { λ r. ⌜ Demand3 (machineOf (now (counts .entry)) (now (cpus .entry)) (now (distances .entry))) (tablesOf (now (pages .entry)) (now (jobs .entry))) (callsIn (now (calls .entry))) ⌝ }
     ensures ledger { λ r. ⌜ ((k n : ℕ) → now (pages .entry) ≡ replicate k 0 → decisionOf r ≡ accept n → Belongs (machineOf (now (counts .entry)) (now (cpus .entry)) (now (distances .entry))) (tablesOf (now (pages .entry)) (now (jobs .entry))) (callsIn (now (calls .entry))) (now (pages .exit))) ⌝ }
 {
-    if !placement::request_tables_ok(counts, cpus, distances, pages, jobs) {
+    if !machine::machine_ok(counts, cpus, distances) {
+        return Decision::Refuse(Refusal::BadTables);
+    }
+    let starts = machine::starts_of(counts);
+    if !placement::lent_ok(counts, &starts, pages.len(), jobs.len()) {
         return Decision::Refuse(Refusal::BadTables);
     }
     if !encoding::calls_ok(calls) {
@@ -43,7 +47,6 @@ pub fn replay(
     if answers.len() < n {
         return Decision::Refuse(Refusal::OutputTooShort);
     }
-    let starts = machine::starts_of(counts);
     let mut i = 0;
     while i < n {
         let start = CALL_WORDS * i;

@@ -31,7 +31,7 @@ use Rattle.rules.proofs.Lists.{_∈_, both-true, keep-member, map-membe
 use Rattle.rules.proofs.Masks.{bit-and, bit-lt}
 use Rattle.rules.proofs.Sorted.{first-least}
 use Rattle.rules.proofs.Near.{near-allowed}
-use Rattle.rules.proofs.Pages.{member-page, page-member, page-lt, page-node, page-node-lt}
+use Rattle.rules.proofs.Pages.{member-page, page-member, page-lt, page-node}
 
 -- ---- the tests that an accepted call has passed
 
@@ -292,10 +292,6 @@ granted-in-node g = page-node (g .lowest .page .ofNode)
 -- it is below the number of pages
 pub granted-page-lt : {m : Machine} {t : Tables} {j k n p : ℕ} → Granted m t j k n p → p < sum (m .pageCounts)
 granted-page-lt g = page-lt (g .lowest .page .ofNode)
-
--- the node is one of the machine
-pub granted-node-lt : {m : Machine} {t : Tables} {j k n p : ℕ} → Granted m t j k n p → n < nodeCount m
-granted-node-lt g = page-node-lt (g .lowest .page .ofNode)
 
 -- every node tried before the one that serves had no free page
 pub earlier-full : {m : Machine} {t : Tables} {j k n p : ℕ} (g : Granted m t j k n p) {s : Try} → s ∈ g .firstWithRoom .before

@@ -6,7 +6,7 @@ use mathlib.Core.Logic.{_↔_}
 use mathlib.Core.Bool.{true, false, false≢true}
 use mathlib.Core.Option.{Option, none, some, orElse}
 use mathlib.Core.List.{List, [], _∷_, _++_}
-use native.Mathlib.Nat.{add-zero, zero-add, add-suc, suc-add, add-mod-left, mod-lt, mod-eq-of-lt, div-one, le-antisymm, le-of-suc-le-suc, lt-of-not-le}
+use native.Mathlib.Nat.{add-zero, zero-add, add-suc, suc-add, add-mod-left, mod-eq-of-lt, div-one, le-antisymm, le-of-suc-le-suc, lt-of-not-le}
 use native.Mathlib.Nat.{lt-of-lt-of-le}
 use native.Mathlib.Omega.{arith}
 use lib.Count.{trailingZeros}
@@ -14,7 +14,7 @@ use lib.Pow.{pow-mono}
 use borrow.Author.Tests.{eqb-true, eq-eqb}
 use Rattle.rules.specs.Basics.{keep, first, from, around}
 use Rattle.rules.specs.Masks.{bit, has}
-use Rattle.rules.proofs.Lists.{_∈_, from-member, member-from, around-member, keep-append, any-false, none-any, first-keep, first-member, first-none}
+use Rattle.rules.proofs.Lists.{_∈_, from-member, member-from, keep-append, any-false, none-any, first-keep, first-member, first-none}
 use Rattle.rules.proofs.Sorted.{first-least}
 use Rattle.rules.proofs.Masks.{bit-above, not-in, none-in, none-from, rank-mono, rank-lt, trailing-from}
 
@@ -169,10 +169,3 @@ turn-round w m c l z p =
 -- an empty mask has no target
 pub turn-none : (w c : ℕ) → turnOf w 0 c ≡ none
 turn-none w c = first-none (has 0) (around w c w) .1 (none-any (has 0) (around w c w) (λ n i. none-in n))
-
--- the target is a node of the mask, below w
-pub target-member : (w m c t : ℕ) → 0 < w → turnOf w m c ≡ some t → (bit m t ≡ 1) × (t < w)
-target-member w m c t h e =
-    let f = first-keep (has m) (around w c w) e in
-    let r = around-member w c w (first-member f) in
-    (eqb-true (bit m t) 1 (f .passes), rw (r .2) (mod-lt (c + r .0) h))

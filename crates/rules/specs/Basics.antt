@@ -41,6 +41,7 @@ module _ {A : Type 0} where
   Each P [] = Unit {0}
   Each P (x ∷ xs) = P x × Each P xs
 
+  -- the list is empty
   unfoldable pub isNil : List A → Bool
   isNil [] = true
   isNil (x ∷ xs) = false

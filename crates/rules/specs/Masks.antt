@@ -4,7 +4,7 @@ use mathlib.Core.Bool.{Bool, _&&_, cond}
 use lib.Bits.{bitAnd}
 use lib.Dec.{eqb, ltb}
 
--- the number of bits of a record's masks
+-- "N nodes, 1 to 64": the masks of a record have a bit for each
 abbrev pub mostNodes : ℕ
 mostNodes = 64
 

@@ -1,44 +1,73 @@
--- `request` meets its contract.
+-- `request` meets its contract: the machine first, then the page table and the job table.
 -- Assumes nothing.
 use mathlib.Core.Path.{_≡_, sym, _∙_}
+use mathlib.Core.Bool.{true}
 use borrow.Author.Needs.{needs}
 use borrow.Author.Tests.{not-true, not-false}
-use mathlib.Core.Bool.{true}
-use Rattle.rules.specs.Calls.{tablesOf, requestTablesOk, applied, admitted, requestDecision, onRequest}
-use Rattle.rules.proofs.InOrder.{release-ok, few-pages}
+use Rattle.rules.specs.Machine.{Machine, machineOk}
+use Rattle.rules.specs.Calls.{Tables, tablesOf, requestTablesOk, applied, admitted, requestDecision, onRequest}
+use Rattle.rules.proofs.Machine.{in-order}
 use Rattle.machine.specs.Tables.{machineOf}
+use Rattle.placement.proofs.InOrder.{request-tested}
 use Rattle.placement.proofs.request.Statement.{statement}
 use Rattle.placement.proofs.request.Tie as tie
 
-returns : tie.Need-returns
-unfolding onRequest requestDecision admitted applied
-returns c = rw (sym (c .before .request-tables-ok .ensures) ∙ not-true _ (c .if1 .taken))
+-- the call, from the place after the machine's test; the machine and the tables
+abbrev call : tie.After-machine-ok → tie.Start
+call c = c .before .before .before .before .before .before
 
--- the tables are in order
-in-order : (c : tie.Else1) →
-    let lent = c .before .before .before .before in
-    let a = lent .before .before .before .before .before .args in
-    requestTablesOk (machineOf (a .counts .now) (a .cpus .now) (a .distances .now)) (tablesOf (a .pages .now) (a .jobs .now)) ≡ true
-in-order c = sym (c .before .request-tables-ok .ensures) ∙ not-false _ (c .if1 .left)
+abbrev machine : tie.Start → Machine
+machine s = machineOf (s .args .counts .now) (s .args .cpus .now) (s .args .distances .now)
+
+abbrev tables : tie.Start → Tables
+tables s = tablesOf (s .args .pages .now) (s .args .jobs .now)
+
+-- the machine breaks the rules
+returns : tie.Need-returns
+unfolding onRequest requestDecision admitted applied requestTablesOk
+returns c = rw (sym (c .before .machine-ok .ensures) ∙ not-true _ (c .if1 .taken))
+
+-- the machine is in order
+machine-ok : (c : tie.Else1) → machineOk (machine (call (c .before))) ≡ true
+machine-ok c = sym (c .before .machine-ok .ensures) ∙ not-false _ (c .if1 .left)
 
 starts-of-requires : tie.Need-starts-of-requires
-starts-of-requires c κs = few-pages _ _ (release-ok _ _ (in-order c))
+starts-of-requires c κs = let i = in-order _ (machine-ok c) .counts in (i .nodesMost, i .pagesMost)
+
+lent-ok-requires : tie.Need-lent-ok-requires
+lent-ok-requires c κs =
+    let made = c .before in
+    let i = in-order _ (machine-ok (made .before)) .counts in
+    (i .nodesMost, i .pagesMost, made .starts-of .ensures)
+
+-- the page table or the job table does
+returns-2 : tie.Need-returns-2
+unfolding onRequest requestDecision admitted applied
+returns-2 c =
+    let known = c .before .before .before .before in
+    let s = call (known .before) in
+    rw (sym (request-tested (machine s) (tables s) (machine-ok known)) ∙ sym (c .before .lent-ok .ensures) ∙ not-true _ (c .if2 .taken))
+
+-- all tables are in order
+tables-ok : (c : tie.Else2) → let s = call (c .before .before .before .before .before) in requestTablesOk (machine s) (tables s) ≡ true
+tables-ok c =
+    let known = c .before .before .before .before in
+    sym (request-tested _ (tables (call (known .before))) (machine-ok known)) ∙ sym (c .before .lent-ok .ensures) ∙ not-false _ (c .if2 .left)
 
 request-at-requires : tie.Need-request-at-requires
 request-at-requires c κs =
-    let made = c .before .before .before in
-    (in-order (made .before), made .starts-of .ensures)
+    let known = c .before .before .before in
+    (tables-ok known, known .before .before .before .starts-of .ensures)
 
 pub request-spec : {M : Type 1} → statement M
 request-spec =
     tie.close
     (tie.spec
     (search needs)
-    (search needs)
-    (search needs)
     returns
     starts-of-requires
+    lent-ok-requires
+    returns-2
     request-at-requires
-    (search needs)
-    (search needs)
+    (search needs) (search needs)
     (λ c. search needs))

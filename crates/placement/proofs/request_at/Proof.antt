@@ -64,10 +64,7 @@ request-at-spec =
     (search needs)
     (λ c. ltb-true _ _ (passes (c .before .before) .cpu))
     serve-requires
-    (search needs)
-    (search needs)
-    (search needs)
+    (search needs) (search needs) (search needs)
     returns
-    (search needs)
-    (search needs)
+    (search needs) (search needs)
     returns-2)

@@ -58,9 +58,7 @@ serve-spec =
     grant-page-requires
     (search needs)
     store-cursor-requires
-    (search needs)
-    (search needs)
-    (search needs)
+    (search needs) (search needs) (search needs)
     returns
     (search needs)
     returns-2)

@@ -31,19 +31,12 @@ pub main-spec : {M : Type 1} → statement M
 main-spec =
     tie.close
     (tie.spec
-    (search needs)
-    (search needs)
-    (search needs)
-    (search needs)
+    (search needs) (search needs) (search needs) (search needs)
     (λ c. search needs)
     (λ c. within (c .before))
     slice-aggregate-bytes
-    (search needs)
-    (search needs)
+    (search needs) (search needs)
     answer-records-requires
-    (search needs)
-    (search needs)
-    (search needs)
-    (search needs)
+    (search needs) (search needs) (search needs) (search needs)
     (λ c. search needs)
     (λ c. search needs))

@@ -38,20 +38,13 @@ read-opening-spec =
     Inv-loop
     μ-loop
     (λ c. search needs)
-    (search needs)
-    (search needs)
-    (search needs)
-    (search needs)
-    (search needs)
+    (search needs) (search needs) (search needs) (search needs) (search needs)
     add-done
-    (search needs)
-    (search needs)
+    (search needs) (search needs)
     (λ c. search needs)
-    (search needs)
-    (search needs)
+    (search needs) (search needs)
     (λ c. search needs)
-    (search needs)
-    (search needs)
+    (search needs) (search needs)
     (λ c. search needs)
     loop-again
     (search needs)

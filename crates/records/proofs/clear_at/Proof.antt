@@ -30,8 +30,7 @@ clear-at-spec =
     (tie.spec
     (search needs)
     returns
-    (search needs)
-    (search needs)
+    (search needs) (search needs)
     (λ c κs. ltb-true _ _ (found (c .before .before .before)))
     (search needs)
     returns-2)

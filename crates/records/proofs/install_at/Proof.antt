@@ -117,17 +117,13 @@ install-at-spec =
     (search needs)
     returns
     (λ c κs. ltb-true _ _ (found (c .before)))
-    (search needs)
-    (search needs)
+    (search needs) (search needs)
     returns-2
-    (search needs)
-    (search needs)
+    (search needs) (search needs)
     returns-3
-    (search needs)
-    (search needs)
+    (search needs) (search needs)
     returns-4
-    (search needs)
-    (search needs)
+    (search needs) (search needs)
     returns-5
     installed-requires
     store-requires

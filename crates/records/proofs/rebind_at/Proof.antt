@@ -116,21 +116,15 @@ rebind-at-spec =
     (search needs)
     returns
     (λ c κs. ltb-true _ _ (found (c .before)))
-    (search needs)
-    (search needs)
+    (search needs) (search needs)
     returns-2
-    (search needs)
-    (search needs)
+    (search needs) (search needs)
     returns-3
-    (search needs)
-    (search needs)
+    (search needs) (search needs)
     returns-4
     (search needs)
     (λ c κs. some-pos _ (ap not (sym (c .before .before .is-empty .ensures) ∙ c .before .if4 .left)))
-    (search needs)
-    (search needs)
-    (search needs)
-    (search needs)
+    (search needs) (search needs) (search needs) (search needs)
     returns-5
     store-requires
     (search needs)

@@ -8,11 +8,13 @@ use native.Mathlib.Omega.{arith}
 use borrow.Author.Needs.{needs}
 use borrow.Author.Tests.{not-true, not-false}
 use lib.ListN.{length, length-set}
-use Rattle.rules.specs.Machine.{Machine}
+use Rattle.rules.specs.Machine.{Machine, machineOk}
 use Rattle.rules.specs.Calls.{Tables, tablesOf, requestTablesOk}
 use Rattle.machine.specs.Tables.{machineOf}
 use Rattle.rules.proofs.Decisions.{accepted-some}
-use Rattle.rules.proofs.InOrder.{same-lengths-ok, release-ok, few-pages}
+use Rattle.rules.proofs.InOrder.{same-lengths-ok}
+use Rattle.rules.proofs.Machine.{in-order}
+use Rattle.placement.proofs.InOrder.{request-tested, request-untested}
 use Rattle.replay.specs.Encoding.{callIn, callCount, callsOk, wordsOf}
 use Rattle.replay.proofs.Words.{part-words, words-whole, call-ok}
 use Rattle.replay.proofs.Run.{Done, begun, advance, tables-refused, calls-refused, room-refused, accepted, finished, stopped, fair-and-owned}
@@ -27,67 +29,88 @@ record Held (m : Machine) (pages₀ jobs₀ calls answers₀ : List ℕ) (n : �
   done : Done m (tablesOf pages₀ jobs₀) calls answers₀ i (tablesOf pages jobs) answers
 
 abbrev Inv-loop : tie.InvT-loop
-Inv-loop counts cpus distances pages₀ jobs₀ calls answers₀ n starts i₀ pages jobs answers i =
+Inv-loop counts cpus distances pages₀ jobs₀ calls answers₀ starts n i₀ pages jobs answers i =
     Held (machineOf counts cpus distances) pages₀ jobs₀ calls answers₀ n pages jobs answers i
 
 abbrev μ-loop : tie.MeasureT-loop
-μ-loop counts cpus distances pages₀ jobs₀ calls answers₀ n starts i₀ pages jobs answers i = n - i
+μ-loop counts cpus distances pages₀ jobs₀ calls answers₀ starts n i₀ pages jobs answers i = n - i
 
--- what the replay is lent, at the place after the test of the tables
-abbrev start : tie.After-request-tables-ok Inv-loop μ-loop → tie.Start Inv-loop μ-loop
-start c = let lent = c .before .before .before .before in lent .before .before .before .before .before .before
+-- what the replay is lent, at the place after the test of the machine
+abbrev start : tie.After-machine-ok Inv-loop μ-loop → tie.Start Inv-loop μ-loop
+start c = c .before .before .before .before .before .before .before .before
 
-abbrev machine : tie.After-request-tables-ok Inv-loop μ-loop → Machine
+abbrev machine : tie.After-machine-ok Inv-loop μ-loop → Machine
 machine c = let a = start c .args in machineOf (a .counts .now) (a .cpus .now) (a .distances .now)
 
-abbrev tables : tie.After-request-tables-ok Inv-loop μ-loop → Tables
+abbrev tables : tie.After-machine-ok Inv-loop μ-loop → Tables
 tables c = tablesOf (start c .args .pages .now) (start c .args .jobs .now)
 
--- the place after that test, from the place past it
-abbrev asked : tie.Else1 Inv-loop μ-loop → tie.After-request-tables-ok Inv-loop μ-loop
-asked c = c .before
+-- from the place where all tables are tested: the place after that test, and where the starts are made
+abbrev asked : tie.Else2 Inv-loop μ-loop → tie.After-machine-ok Inv-loop μ-loop
+asked c = c .before .before .before .before .before
 
--- the place past it, from the loop's head; and a round of the loop, from its end
-abbrev tested : tie.At-loop Inv-loop μ-loop → tie.Else1 Inv-loop μ-loop
-tested l = l .before .before .before .before .before
+abbrev made : tie.Else2 Inv-loop μ-loop → tie.After-starts-of Inv-loop μ-loop
+made c = c .before .before .before
+
+-- that place, from the loop's head; and a round of the loop, from its end
+abbrev tested : tie.At-loop Inv-loop μ-loop → tie.Else2 Inv-loop μ-loop
+tested l = l .before .before .before .before
 
 abbrev round : tie.After-answer-word Inv-loop μ-loop → tie.In-loop Inv-loop μ-loop
 round c = let performed = c .before .before .before .before .before in performed .before .before .before .before .before .before .before
 
--- past the first test the tables are in order, past the second the calls
-tables-ok : (c : tie.Else1 Inv-loop μ-loop) → requestTablesOk (machine (asked c)) (tables (asked c)) ≡ true
-tables-ok c = sym (asked c .request-tables-ok .ensures) ∙ not-false _ (c .if1 .left)
+-- past the first test the machine is in order, past the second all tables, past the third the calls
+machine-ok : (c : tie.Else1 Inv-loop μ-loop) → machineOk (machine (c .before)) ≡ true
+machine-ok c = sym (c .before .machine-ok .ensures) ∙ not-false _ (c .if1 .left)
 
-calls-ok : (c : tie.Else2 Inv-loop μ-loop) → callsOk (start (asked (c .before .before)) .args .calls .now) ≡ true
-calls-ok c = sym (c .before .calls-ok .ensures) ∙ not-false _ (c .if2 .left)
+tables-ok : (c : tie.Else2 Inv-loop μ-loop) → requestTablesOk (machine (asked c)) (tables (asked c)) ≡ true
+tables-ok c =
+    sym (request-tested _ (tables (asked c)) (machine-ok (made c .before))) ∙ sym (c .before .lent-ok .ensures) ∙ not-false _ (c .if2 .left)
+
+calls-ok : (c : tie.Else3 Inv-loop μ-loop) → callsOk (start (asked (c .before .before)) .args .calls .now) ≡ true
+calls-ok c = sym (c .before .calls-ok .ensures) ∙ not-false _ (c .if3 .left)
 
 returns : tie.Need-returns Inv-loop μ-loop
 returns c =
     let t = c .before in
     let a = start t .args in
-    let bad = sym (t .request-tables-ok .ensures) ∙ not-true _ (c .if1 .taken) in
+    let bad = request-untested (machine t) (tables t) (sym (t .machine-ok .ensures) ∙ not-true _ (c .if1 .taken)) in
     fair-and-owned (machine t) (tables t) (a .calls .now) (a .answers .now) _ _ _
     (stopped (machine t) (tables t) (a .calls .now) (a .answers .now) 1 (tables-refused (machine t) (tables t) (a .calls .now) _ bad))
 
+starts-of-requires : tie.Need-starts-of-requires Inv-loop μ-loop
+starts-of-requires c κs = let i = in-order _ (machine-ok c) .counts in (i .nodesMost, i .pagesMost)
+
+lent-ok-requires : tie.Need-lent-ok-requires Inv-loop μ-loop
+lent-ok-requires c κs =
+    let i = in-order _ (machine-ok (c .before .before)) .counts in
+    (i .nodesMost, i .pagesMost, c .before .starts-of .ensures)
+
 returns-2 : tie.Need-returns-2 Inv-loop μ-loop
 returns-2 c =
+    let known = c .before .before .before .before in
+    let t = known .before in
+    let a = start t .args in
+    let bad = sym (request-tested (machine t) (tables t) (machine-ok known)) ∙ sym (c .before .lent-ok .ensures) ∙ not-true _ (c .if2 .taken) in
+    fair-and-owned (machine t) (tables t) (a .calls .now) (a .answers .now) _ _ _
+    (stopped (machine t) (tables t) (a .calls .now) (a .answers .now) 1 (tables-refused (machine t) (tables t) (a .calls .now) _ bad))
+
+returns-3 : tie.Need-returns-3 Inv-loop μ-loop
+returns-3 c =
     let t = asked (c .before .before) in
     let a = start t .args in
-    let bad = sym (c .before .calls-ok .ensures) ∙ not-true _ (c .if2 .taken) in
+    let bad = sym (c .before .calls-ok .ensures) ∙ not-true _ (c .if3 .taken) in
     fair-and-owned (machine t) (tables t) (a .calls .now) (a .answers .now) _ _ _
     (stopped (machine t) (tables t) (a .calls .now) (a .answers .now) 13
     (calls-refused (machine t) (tables t) (a .calls .now) _ (tables-ok (c .before .before)) bad))
 
-returns-3 : tie.Need-returns-3 Inv-loop μ-loop
-returns-3 c =
+returns-4 : tie.Need-returns-4 Inv-loop μ-loop
+returns-4 c =
     let t = asked (c .before .before .before) in
     let a = start t .args in
     fair-and-owned (machine t) (tables t) (a .calls .now) (a .answers .now) _ _ _
     (stopped (machine t) (tables t) (a .calls .now) (a .answers .now) 11
-    (room-refused (machine t) (tables t) (a .calls .now) _ (tables-ok (c .before .before .before)) (calls-ok (c .before)) (c .if3 .taken)))
-
-starts-of-requires : tie.Need-starts-of-requires Inv-loop μ-loop
-starts-of-requires c κs = few-pages _ _ (release-ok _ _ (tables-ok (c .before .before .before)))
+    (room-refused (machine t) (tables t) (a .calls .now) _ (tables-ok (c .before .before .before)) (calls-ok (c .before)) (c .if4 .taken)))
 
 loop-holds : tie.Need-loop-holds Inv-loop μ-loop
 loop-holds c = record { within = search needs; long-pages = refl; long-jobs = refl; long-answers = refl; done = begun _ _ _ _ }
@@ -102,7 +125,7 @@ perform-requires : tie.Need-perform-requires Inv-loop μ-loop
 perform-requires c κs =
     let l = c .before .before .before .before .before .before .before in
     let ok = same-lengths-ok _ (tables (asked (tested l))) _ (l .loop .inv .long-pages) (l .loop .inv .long-jobs) (tables-ok (tested l)) in
-    (ok, l .before .starts-of .ensures)
+    (ok, made (tested l) .starts-of .ensures)
 
 -- an index of a call fits a word: the answers have a place for it
 index-fits : (c : tie.After-answer-word Inv-loop μ-loop) → round c .before .loop .i * 8 < 2 ^ 64
@@ -127,7 +150,7 @@ loop-again c =
     let words = start t .args .calls .now in
     let h = l .loop in
     let more : h .i < callCount words = round c .loop-test .taken in
-    let x = accepted-some (callIn (wordsOf words (h .i))) (call-ok words (h .i) (calls-ok (l .before .before .before)) more) in
+    let x = accepted-some (callIn (wordsOf words (h .i))) (call-ok words (h .i) (calls-ok (l .before .before)) more) in
     let says = read .read-call .ensures (x .0) (ap callIn (part-words words (h .i)) ∙ x .1) in
     record {
       within = search needs;
@@ -138,18 +161,18 @@ loop-again c =
           (done .perform .ensures (x .0) says) (c .answer-word .ensures);
     }
 
-same-length-7 : tie.Need-same-length-7 Inv-loop μ-loop
-same-length-7 c = c .before .loop .inv .long-pages
+same-length : tie.Need-same-length Inv-loop μ-loop
+same-length c = c .before .loop .inv .long-pages
 
-same-length-8 : tie.Need-same-length-8 Inv-loop μ-loop
-same-length-8 c = c .before .loop .inv .long-jobs
+same-length-2 : tie.Need-same-length-2 Inv-loop μ-loop
+same-length-2 c = c .before .loop .inv .long-jobs
 
-same-length-9 : tie.Need-same-length-9 Inv-loop μ-loop
-same-length-9 c = c .before .loop .inv .long-answers
+same-length-3 : tie.Need-same-length-3 Inv-loop μ-loop
+same-length-3 c = c .before .loop .inv .long-answers
 
-returns-4 : tie.Need-returns-4 Inv-loop μ-loop
-returns-4 c =
-    let run = c .before .before .before in
+returns-5 : tie.Need-returns-5 Inv-loop μ-loop
+returns-5 c =
+    let run = c .before .before in
     let past = run .before .before .before in
     let t = asked past in
     let a = start t .args in
@@ -157,12 +180,11 @@ returns-4 c =
     let all : h .i ≡ callCount (a .calls .now) = omega arith in
     fair-and-owned (machine t) (tables t) (a .calls .now) (a .answers .now) _ _ _
     (finished (machine t) (tables t) (a .calls .now) (a .answers .now) _ _
-    (accepted (machine t) (tables t) (a .calls .now) _ (tables-ok past) (calls-ok (run .before)) (run .if3 .left)) (rw all at (h .inv .done)))
+    (accepted (machine t) (tables t) (a .calls .now) _ (tables-ok past) (calls-ok (run .before)) (run .if4 .left)) (rw all at (h .inv .done)))
 
 pub replay-spec : {M : Type 1} → statement M
 replay-spec =
     tie.close
-    (tie.spec Inv-loop μ-loop (search needs) (search needs) (search needs) returns (search needs) (search needs) (search needs) returns-2 (search needs)
-    (search needs) returns-3 starts-of-requires loop-holds (search needs) (search needs) (search needs) (search needs) (search needs) (search needs)
-    read-call-requires perform-requires (search needs) mul-answers (λ c. search needs) add-i (λ c. search needs) loop-again same-length-7
-    same-length-8 same-length-9 returns-4)
+    (tie.spec Inv-loop μ-loop (search needs) returns starts-of-requires lent-ok-requires returns-2 (search needs) returns-3 returns-4 loop-holds
+    (search needs) (search needs) (search needs) (search needs) (search needs) (search needs) read-call-requires perform-requires (search needs)
+    mul-answers (λ c. search needs) add-i (λ c. search needs) loop-again same-length same-length-2 same-length-3 returns-5)

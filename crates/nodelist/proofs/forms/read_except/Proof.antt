@@ -18,8 +18,8 @@ told c =
     let a = c .before .before .before .args in
     c .read-items .ensures ∙ ap (itemsRead (a .nodes)) (past-mark (a .text .now))
 
-others-requires : tie.Need-others-requires
-others-requires c κs =
+complement-requires : tie.Need-complement-requires
+complement-requires c κs =
     let s = c .before .before .before .before .before .before .before in (
       s .pre .1,
       rw (c .nodes .ensures)
@@ -30,7 +30,7 @@ others-requires c κs =
 returns : tie.Need-returns
 returns c =
     rw (← told (c .before .before .before .before .before), c .before .before .before .items .given .1)
-    (ap {B = Decision ℕ} accept (rw (c .before .nodes .ensures) at (c .others .ensures)))
+    (ap {B = Decision ℕ} accept (rw (c .before .nodes .ensures) at (c .complement .ensures)))
 
 returns-2 : tie.Need-returns-2
 returns-2 c = rw (← told (c .before .before), c .enum-told .given .1)
@@ -39,5 +39,5 @@ pub read-except-spec : {M : Type 1} → statement M
 read-except-spec =
     tie.close
     (tie.spec
-    (search needs) (search needs) (search needs) (search needs) (search needs) (search needs) others-requires (search needs) returns
+    (search needs) (search needs) (search needs) (search needs) (search needs) (search needs) complement-requires (search needs) returns
     returns-2)

@@ -1,7 +1,6 @@
 -- `Mask::without` meets its contract: the bit of the node is taken away.
 -- Assumes nothing.
 use Prim.Native.Nat.{_<_}
-use mathlib.Core.Path.{ap}
 use native.Mathlib.Omega.{arith}
 use borrow.Author.Needs.{needs}
 use Rattle.rules.proofs.Masks.{below-width, one-shifted}

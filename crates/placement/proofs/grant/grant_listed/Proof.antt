@@ -107,9 +107,7 @@ grant-listed-spec =
     (search needs)
     same-length
     returns
-    (search needs)
-    (search needs)
-    (search needs)
+    (search needs) (search needs) (search needs)
     loop-again
     (λ c. search needs)
     returns-2)

@@ -1,6 +1,5 @@
 -- `grant::grant_near` meets its contract: the first node, then the others.
 -- Assumes nothing.
-use Prim.Native.Nat.{_^_, _<_}
 use mathlib.Core.Path.{_≡_, sym, ap, _∙_}
 use mathlib.Core.Option.{some}
 use native.Mathlib.Omega.{arith}
@@ -77,12 +76,10 @@ grant-near-spec =
     tie.close
     (tie.spec
     (λ c κs. c .before .before .before .pre .1)
-    (search needs)
-    (search needs)
+    (search needs) (search needs)
     returns
     grant-node-requires
-    (search needs)
-    (search needs)
+    (search needs) (search needs)
     without-requires
     grant-listed-requires
     (search needs)

@@ -64,23 +64,14 @@ pub grant-node-spec : {M : Type 1} → statement M
 grant-node-spec =
     tie.close
     (tie.spec
-    (search needs)
-    (search needs)
-    (search needs)
-    (search needs)
-    (search needs)
-    (search needs)
+    (search needs) (search needs) (search needs) (search needs) (search needs) (search needs)
     cast-end
     add-end
-    (search needs)
-    (search needs)
+    (search needs) (search needs)
     part-pick-end
-    (search needs)
-    (search needs)
-    (search needs)
+    (search needs) (search needs) (search needs)
     after-requires
-    (search needs)
-    (search needs)
+    (search needs) (search needs)
     returns
     (search needs)
     returns-2)

@@ -29,8 +29,7 @@ grant-places-spec =
     tie.close
     (tie.spec
     (λ c κs. c .before .before .before .pre .0)
-    (search needs)
-    (search needs)
+    (search needs) (search needs)
     grant-round-requires
     (search needs)
     returns

@@ -117,8 +117,7 @@ grant-round-spec =
     returns
     (search needs)
     add-position
-    (search needs)
-    (search needs)
+    (search needs) (search needs)
     loop-again
     (λ c. search needs)
     returns-2)

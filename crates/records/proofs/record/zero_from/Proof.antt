@@ -19,11 +19,8 @@ pub zero-from-spec : {M : Type 1} → statement M
 zero-from-spec =
     tie.close
     (tie.spec
-    (search needs)
-    (search needs)
-    (search needs)
+    (search needs) (search needs) (search needs)
     returns
-    (search needs)
-    (search needs)
+    (search needs) (search needs)
     returns-2
     returns-3)

@@ -25,10 +25,5 @@ pub store-cursor-spec : {M : Type 1} → statement M
 store-cursor-spec =
     tie.close
     (tie.spec
-    (search needs)
-    (search needs)
-    (search needs)
-    (search needs)
-    (search needs)
-    (search needs)
+    (search needs) (search needs) (search needs) (search needs) (search needs) (search needs)
     returns)

@@ -173,26 +173,16 @@ pub of-spec : {M : Type 1} → statement M
 of-spec =
     tie.close
     (tie.spec
-    (search needs)
-    (search needs)
-    (search needs)
+    (search needs) (search needs) (search needs)
     returns
     lowest-requires
-    (search needs)
-    (search needs)
+    (search needs) (search needs)
     returns-2
-    (search needs)
-    (search needs)
+    (search needs) (search needs)
     target-requires
     (search needs)
     add-t23
-    (search needs)
-    (search needs)
-    (search needs)
-    (search needs)
-    (search needs)
-    (search needs)
-    (search needs)
+    (search needs) (search needs) (search needs) (search needs) (search needs) (search needs) (search needs)
     returns-3
     returns-4
     returns-5

@@ -10,12 +10,7 @@ unfolding effectiveAtInstall
 effective-spec =
     tie.close
     (tie.spec
-    (search needs)
-    (search needs)
-    (search needs)
-    (search needs)
-    (search needs)
-    (search needs)
+    (search needs) (search needs) (search needs) (search needs) (search needs) (search needs)
     (λ c. rw (c .before .enum-told .given .1) (c .both .ensures))
     (λ c. rw (c .before .enum-told2 .given .1) (c .both2 .ensures))
     (λ c. rw (c .before .enum-told3 .given .1) (c .folded .ensures)))

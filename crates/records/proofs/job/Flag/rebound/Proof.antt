@@ -11,12 +11,7 @@ unfolding recordWith rebound effectiveAtRebind
 rebound-spec =
     tie.close
     (tie.spec
-    (search needs)
-    (search needs)
-    (search needs)
-    (search needs)
-    (search needs)
-    (search needs)
+    (search needs) (search needs) (search needs) (search needs) (search needs) (search needs)
     (λ c. λ n k ps. rw (c .before .enum-told .given .1, c .remapped .ensures))
     (λ c. λ n k ps. rw (c .before .enum-told2 .given .1, c .both .ensures))
     (λ c. λ n k ps. rw (c .before .enum-told3 .given .1, c .folded .ensures)))

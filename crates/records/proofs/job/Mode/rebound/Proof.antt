@@ -12,16 +12,8 @@ unfolding recordWith rebound effectiveAtRebind
 rebound-spec =
     tie.close
     (tie.spec
-    (search needs)
-    (search needs)
-    (search needs)
-    (search needs)
-    (search needs)
-    (search needs)
-    (search needs)
-    (search needs)
-    (search needs)
-    (search needs)
+    (search needs) (search needs) (search needs) (search needs) (search needs) (search needs) (search needs) (search needs)
+    (search needs) (search needs)
     (λ c ps. rw (c .enum-told .given .1, remapped-none))
     (λ c ps. rw (c .before .before .self .given .1) (c .rebound .ensures _ _ ps))
     (λ c ps. rw (c .before .before .self2 .given .1) (c .rebound2 .ensures _ _ ps))

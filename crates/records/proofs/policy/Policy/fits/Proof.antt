@@ -26,13 +26,7 @@ unfolding rowOf policyFits
 fits-spec =
     tie.close
     (tie.spec
-    (search needs)
-    (search needs)
-    (search needs)
-    (search needs)
-    (search needs)
-    (search needs)
-    (search needs)
+    (search needs) (search needs) (search needs) (search needs) (search needs) (search needs) (search needs)
     (λ c ps l. let none = c .before .before .before in rw (sym (none .before .of .ensures), c .before .enum-told .given .1, none .is-empty .ensures, l))
     returns-2
     returns-3

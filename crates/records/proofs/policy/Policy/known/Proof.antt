@@ -19,12 +19,7 @@ unfolding rowOf isKnown flagFits policyKnown
 known-spec =
     tie.close
     (tie.spec
-    (search needs)
-    (search needs)
-    (search needs)
-    (search needs)
-    (search needs)
-    (search needs)
+    (search needs) (search needs) (search needs) (search needs) (search needs) (search needs)
     (λ c ps. rw (sym (c .before .before .before .of .ensures), c .before .enum-told .given .1, no-flag))
     returns-2
     (λ c ps. rw (sym (c .before .before .before .of .ensures), c .before .enum-told3 .given .1, no-flag))

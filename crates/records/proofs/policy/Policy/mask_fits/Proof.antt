@@ -10,8 +10,5 @@ unfolding maskFits
 mask-fits-spec =
     tie.close
     (tie.spec
-    (search needs)
-    (search needs)
-    (search needs)
-    (search needs)
+    (search needs) (search needs) (search needs) (search needs)
     (λ c ps. cc))

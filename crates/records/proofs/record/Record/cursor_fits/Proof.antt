@@ -12,13 +12,7 @@ unfolding cursorLimit cursorFits recordOf
 cursor-fits-spec =
     tie.close
     (tie.spec
-    (search needs)
-    (search needs)
-    (search needs)
-    (search needs)
-    (search needs)
-    (search needs)
-    (search needs)
+    (search needs) (search needs) (search needs) (search needs) (search needs) (search needs) (search needs)
     (λ c. rw (sym (c .before .before .of .ensures), c .enum-told .given .1))
     (λ c. rw (sym (c .before .before .of .ensures), c .enum-told2 .given .1))
     (λ c. rw (sym (c .before .before .before .of .ensures), c .before .enum-told3 .given .1)))

@@ -20,16 +20,9 @@ unfolding rowOf dataFits recordOf
 data-fits-spec =
     tie.close
     (tie.spec
-    (search needs)
-    (search needs)
-    (search needs)
-    (search needs)
-    (search needs)
-    (search needs)
+    (search needs) (search needs) (search needs) (search needs) (search needs) (search needs)
     masks-fit-requires
-    (search needs)
-    (search needs)
-    (search needs)
+    (search needs) (search needs) (search needs)
     (λ c. rw (sym (c .before .before .before .before .of .ensures), c .before .enum-told .given .1, c .no-masks .ensures))
     (λ c. rw (sym (c .before .before .before .before .of .ensures), c .before .enum-told2 .given .1, c .masks-fit .ensures))
     (λ c. rw (sym (c .before .before .before .before .of .ensures), c .before .enum-told3 .given .1, c .no-masks2 .ensures))

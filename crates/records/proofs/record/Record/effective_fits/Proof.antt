@@ -12,12 +12,7 @@ unfolding effectiveFits recordOf
 effective-fits-spec =
     tie.close
     (tie.spec
-    (search needs)
-    (search needs)
-    (search needs)
-    (search needs)
-    (search needs)
-    (search needs)
+    (search needs) (search needs) (search needs) (search needs) (search needs) (search needs)
     (λ c. rw (c .before .before .before .match .keys1, c .before .before .below .ensures, c .before .is-empty .ensures, c .within .ensures))
     (λ c. let b = c .before .before .before in rw (b .before .match .keys2, b .below2 .ensures, c .before .before .both .ensures))
     (λ c. rw (c .before .before .before .match .keys3, c .before .before .folded .ensures))

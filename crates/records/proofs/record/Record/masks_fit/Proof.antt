@@ -12,8 +12,7 @@ unfolding masksFit recordOf
 masks-fit-spec =
     tie.close
     (tie.spec
-    (search needs)
-    (search needs)
+    (search needs) (search needs)
     (λ c. rw (sym (c .before .before .before .is-empty .ensures) ∙ c .before .before .if1 .taken, c .no-masks .ensures))
     (search needs)
     (λ c. rw (sym (c .before .before .is-empty .ensures) ∙ c .before .if1 .left, c .effective-fits .ensures)))

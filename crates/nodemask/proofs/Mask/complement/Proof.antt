@@ -1,4 +1,4 @@
--- `Mask::others` meets its contract: all nodes below n, and not those of the mask.
+-- `Mask::complement` meets its contract: all nodes below n, and not those of the mask.
 -- Assumes nothing.
 use mathlib.Core.Path.{ap, sym, _∙_}
 use Prim.Native.Nat.{ℕ, _-_, _^_}
@@ -7,8 +7,8 @@ use borrow.Author.Needs.{needs}
 use lib.Bits.{bitAnd}
 use Rattle.rules.specs.Masks.{allNodes}
 use Rattle.rules.proofs.Masks.{and-not}
-use Rattle.nodemask.proofs.Mask.others.Statement.{statement}
-use Rattle.nodemask.proofs.Mask.others.Tie as tie
+use Rattle.nodemask.proofs.Mask.complement.Statement.{statement}
+use Rattle.nodemask.proofs.Mask.complement.Tie as tie
 
 returns : tie.Need-returns
 returns c =
@@ -19,6 +19,6 @@ returns c =
     ∙ ap (λ (x : ℕ). bitAnd (allNodes n) ((2 ^ x - 1) - m)) (sym (sub-add-cancel (s .pre .0)))
     ∙ and-not (64 - n) n m (s .pre .1)
 
-pub others-spec : {M : Type 1} → statement M
-others-spec =
+pub complement-spec : {M : Type 1} → statement M
+complement-spec =
     tie.close (tie.spec (search needs) returns)
