@@ -1,7 +1,8 @@
-//! The rules of document 01 written for speed: tables tested once, no order built that is not needed.
+//! The rules of document 01, with free counts, written for speed: tables tested once, no order built.
 //! The calls named `.._at` are made on tables that are known to be in order.
 
-use crate::map::{find_starts, jobs_ok, Map, Room, Starts};
+use crate::free::{Free, Lent};
+use crate::map::{find_starts, jobs_ok, node_of, Map, Starts};
 use crate::masks::{below, folded, remapped};
 use crate::record::Record;
 
@@ -30,48 +31,76 @@ pub const fn refused(refusal: u8) -> Out {
 }
 
 /// Request.
-pub fn request_at(map: &mut Map, pages: &mut [u8], jobs: &mut Jobs, job: usize, cpu: usize) -> Out {
+pub fn request_at<const KEPT: bool>(
+    map: &Map,
+    pages: &mut [u8],
+    jobs: &mut Jobs,
+    free: &mut Free<KEPT>,
+    job: usize,
+    cpu: usize,
+) -> Out {
     let Some(words) = jobs.get_mut(job) else { return refused(2) };
     let Some(home) = map.cpus.get(cpu) else { return refused(3) };
     let Some(record) = Record::of(map.nodes, words) else { return refused(4) };
     let home = usize::from(*home);
     let (allowed, effective) = (record.allowed(), record.effective());
     let mut cursor = record.cursor();
-    let found = match record.mode() {
-        _ if record.flag() == 1 && effective == 0 => map.near(pages, allowed, home),
-        1 if effective != 0 => map.near(pages, allowed, effective.trailing_zeros() as usize),
-        2 => map.near(pages, effective, home),
+    let chosen = match record.mode() {
+        _ if record.flag() == 1 && effective == 0 => free.near(map, allowed, home),
+        1 if effective != 0 => free.near(map, allowed, effective.trailing_zeros() as usize),
+        2 => free.near(map, effective, home),
         3 => {
             let target = record.target();
             cursor = target as u64 + 1;
-            map.near(pages, allowed, target)
+            free.near(map, allowed, target)
         }
-        0 | 1 => map.near(pages, allowed, home),
+        0 | 1 => free.near(map, allowed, home),
         mode => {
-            let first = if mode == 6 { map.place(pages, record, 0) } else { None };
+            let first = if mode == 6 { free.place(record, 0) } else { None };
             first.or_else(|| {
-                let (place, room) = map.round(pages, record, cursor)?;
+                let (place, node) = free.round(record, cursor)?;
                 cursor = if mode == 4 { 0 } else { place + 1 };
-                Some(room)
+                Some(node)
             })
         }
     };
-    let Some(Room { node, page }) = found else { return refused(8) };
+    let Some(node) = chosen else { return refused(8) };
+    let Some(page) = map.page(pages, node) else { return refused(14) };
     words[0] = words[0] & !(255 << 24) | cursor << 24;
-    pages[page as usize] = job as u8 + 1;
-    Out { refusal: 0, node, page }
+    pages[page] = job as u8 + 1;
+    free.take(node);
+    Out { refusal: 0, node: node as u8, page: page as u32 }
 }
 
 /// Release.
-pub fn release_at(starts: &Starts, nodes: usize, pages: &mut [u8], jobs: usize, job: usize, page: usize) -> Out {
+pub fn release_at<const KEPT: bool>(
+    starts: &Starts,
+    nodes: usize,
+    pages: &mut [u8],
+    jobs: usize,
+    free: &mut Free<KEPT>,
+    job: usize,
+    page: usize,
+) -> Out {
     if job >= jobs {
         return refused(2);
     }
     if page >= starts[nodes] as usize || pages[page] != job as u8 + 1 {
         return refused(10);
     }
+    let node = node_of(starts, nodes, page);
+    if !free.give(node, starts[node + 1] - starts[node]) {
+        return refused(14);
+    }
     pages[page] = 0;
-    Out { refusal: 0, node: Map::node_of(starts, nodes, page) as u8, page: page as u32 }
+    Out { refusal: 0, node: node as u8, page: page as u32 }
+}
+
+/// Fresh.
+pub fn fresh_at<const KEPT: bool>(starts: &Starts, nodes: usize, pages: &mut [u8], free: &mut Free<KEPT>) -> Out {
+    pages[..starts[nodes] as usize].fill(0);
+    free.give_all(starts);
+    DONE
 }
 
 /// Install, with the first sixteen places as one number, zeros past their length.
@@ -141,22 +170,38 @@ pub fn request(
     distances: &[u8],
     pages: &mut [u8],
     jobs: &mut [u64],
+    free: &mut [u32],
     job: usize,
     cpu: usize,
 ) -> Out {
-    match Map::new(&mut [0; 65], counts, cpus, distances, pages.len(), jobs.len()) {
-        Some(mut map) => request_at(&mut map, pages, jobs.as_chunks_mut().0, job, cpu),
-        None => refused(1),
+    let mut starts = [0; 65];
+    let map = Map::new(&mut starts, counts, cpus, distances, pages.len(), jobs.len());
+    match (map, Lent::new(free, counts.len())) {
+        (Some(map), Some(mut free)) => request_at(&map, pages, jobs.as_chunks_mut().0, &mut free, job, cpu),
+        _ => refused(1),
     }
 }
 
 /// Release.
-pub fn release(counts: &[u32], pages: &mut [u8], jobs: &[u64], job: usize, page: usize) -> Out {
+pub fn release(counts: &[u32], pages: &mut [u8], jobs: &[u64], free: &mut [u32], job: usize, page: usize) -> Out {
     let mut starts = [0; 65];
-    if !find_starts(&mut starts, counts, pages.len()) || !jobs_ok(jobs.len()) {
-        return refused(1);
+    match Lent::new(free, counts.len()) {
+        Some(mut free) if find_starts(&mut starts, counts, pages.len()) && jobs_ok(jobs.len()) => {
+            release_at(&starts, counts.len(), pages, jobs.len() / 6, &mut free, job, page)
+        }
+        _ => refused(1),
     }
-    release_at(&starts, counts.len(), pages, jobs.len() / 6, job, page)
+}
+
+/// Fresh.
+pub fn fresh(counts: &[u32], pages: &mut [u8], free: &mut [u32]) -> Out {
+    let mut starts = [0; 65];
+    match Lent::new(free, counts.len()) {
+        Some(mut free) if find_starts(&mut starts, counts, pages.len()) => {
+            fresh_at(&starts, counts.len(), pages, &mut free)
+        }
+        _ => refused(1),
+    }
 }
 
 /// The words of a job for install, rebind or clear, or refusal 1 or 2.

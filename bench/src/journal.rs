@@ -3,6 +3,7 @@
 use std::io::{Read, Result, Write};
 
 use crate::fast::{clear_at, install_at, rebind_at, refused, release_at, request_at, Jobs, Out};
+use crate::free::Kept;
 use crate::map::Map;
 
 /// The longest machine record: 16 nodes and 64 CPUs.
@@ -66,14 +67,15 @@ fn run_records(nodes: usize, cpus: usize, tables: &[u8], input: &mut impl Read, 
     let (counts, tables) = tables.split_at(2 * nodes);
     let (cpus, distances) = tables.split_at(cpus);
     let counts: Vec<u32> = counts.as_chunks().0.iter().map(|bytes| u16::from_le_bytes(*bytes).into()).collect();
-    let (mut starts, mut pages, mut jobs) = ([0; 65], [0; 16_384], [[0; 6]; 64]);
-    let Some(mut map) = Map::new(&mut starts, &counts, cpus, distances, pages.len(), 384) else {
+    let (mut starts, mut pages, mut jobs, mut free) = ([0; 65], [0; 16_384], [[0; 6]; 64], counts.clone());
+    let map = Map::new(&mut starts, &counts, cpus, distances, pages.len(), 384);
+    let (Some(map), Some(mut free)) = (map, Kept::new(&mut free, nodes)) else {
         return output.write_all(&answer(BROKEN, refused(1)));
     };
     let (mut part, mut answers) = (vec![0; PART], vec![0; ANSWERS]);
     loop {
         let size = read_full(input, &mut part)?;
-        let (written, more) = run_part(&mut map, &mut pages, &mut jobs, &part[..size], &mut answers);
+        let (written, more) = run_part(&map, &mut pages, &mut jobs, &mut free, &part[..size], &mut answers);
         output.write_all(&answers[..written])?;
         if !more || size < PART {
             return Ok(());
@@ -82,11 +84,18 @@ fn run_records(nodes: usize, cpus: usize, tables: &[u8], input: &mut impl Read, 
 }
 
 /// Answers the records of a part; gives how many bytes were written and whether the run goes on.
-fn run_part(map: &mut Map, pages: &mut [u8], jobs: &mut Jobs, part: &[u8], answers: &mut [u8]) -> (usize, bool) {
+fn run_part(
+    map: &Map,
+    pages: &mut [u8],
+    jobs: &mut Jobs,
+    free: &mut Kept,
+    part: &[u8],
+    answers: &mut [u8],
+) -> (usize, bool) {
     let mut written = 0;
     for (record, bytes) in part.chunks(32).zip(answers.as_chunks_mut().0) {
         written += 12;
-        match call(map, pages, jobs, record) {
+        match call(map, pages, jobs, free, record) {
             Some(out) => *bytes = answer(record[2], out),
             None => {
                 *bytes = answer(BROKEN, refused(13));
@@ -98,7 +107,7 @@ fn run_part(map: &mut Map, pages: &mut [u8], jobs: &mut Jobs, part: &[u8], answe
 }
 
 /// Makes the call of a record, read as four words; none if it is short or damaged.
-fn call(map: &mut Map, pages: &mut [u8], jobs: &mut Jobs, record: &[u8]) -> Option<Out> {
+fn call(map: &Map, pages: &mut [u8], jobs: &mut Jobs, free: &mut Kept, record: &[u8]) -> Option<Out> {
     let &[head, mask, low, high] = record.as_chunks().0 else { return None };
     let [head, mask, low, high] = [head, mask, low, high].map(u64::from_le_bytes);
     let (kind, job, nodes) = (head >> 16 & 255, (head >> 24 & 255) as usize, map.nodes);
@@ -114,8 +123,8 @@ fn call(map: &mut Map, pages: &mut [u8], jobs: &mut Jobs, record: &[u8]) -> Opti
         return None;
     }
     match kind {
-        1 => return Some(request_at(map, pages, jobs, job, (head >> 32) as usize)),
-        2 => return Some(release_at(map.starts, nodes, pages, jobs.len(), job, mask as usize)),
+        1 => return Some(request_at(map, pages, jobs, free, job, (head >> 32) as usize)),
+        2 => return Some(release_at(map.starts, nodes, pages, jobs.len(), free, job, mask as usize)),
         _ => {}
     }
     let Some(words) = jobs.get_mut(job) else { return Some(refused(2)) };

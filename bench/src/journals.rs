@@ -39,6 +39,7 @@ fn machine(nodes: usize) -> Tables {
         distances: (0..nodes * nodes).map(|place| 10 + 3 * apart(place).min(nodes - apart(place)) as u8).collect(),
         pages: vec![0; nodes * PAGES as usize],
         jobs: vec![0; JOBS * 6],
+        free: vec![PAGES; nodes],
     }
 }
 

@@ -3,6 +3,7 @@
 #![deny(unsafe_code)]
 
 pub mod fast;
+mod free;
 pub mod journal;
 pub mod journals;
 pub mod list;

@@ -1,14 +1,16 @@
 //! A list of calls of sixteen words each, on tables tested once.
 
-use crate::fast::{clear_at, install_at, rebind_at, refused, release_at, request_at, Jobs, Out};
+use crate::fast::{clear_at, fresh_at, install_at, rebind_at, refused, release_at, request_at, Jobs, Out};
+use crate::free::Kept;
 use crate::map::Map;
 
 /// Makes one call.
-fn call(map: &mut Map, pages: &mut [u8], jobs: &mut Jobs, call: &[u64; 16]) -> Out {
+fn call(map: &Map, pages: &mut [u8], jobs: &mut Jobs, free: &mut Kept, call: &[u64; 16]) -> Out {
     let (job, nodes) = (call[1] as usize, map.nodes);
     match call[0] {
-        1 => return request_at(map, pages, jobs, job, call[2] as usize),
-        2 => return release_at(map.starts, nodes, pages, jobs.len(), job, call[2] as usize),
+        1 => return request_at(map, pages, jobs, free, job, call[2] as usize),
+        2 => return release_at(map.starts, nodes, pages, jobs.len(), free, job, call[2] as usize),
+        16 => return fresh_at(map.starts, nodes, pages, free),
         _ => {}
     }
     let Some(words) = jobs.get_mut(job) else { return refused(2) };
@@ -30,13 +32,15 @@ pub fn replay(
     distances: &[u8],
     pages: &mut [u8],
     jobs: &mut [u64],
+    free: &mut [u32],
     calls: &[u64],
     answers: &mut [u64],
 ) -> Result<usize, u8> {
     let mut starts = [0; 65];
-    let mut map = Map::new(&mut starts, counts, cpus, distances, pages.len(), jobs.len()).ok_or(1)?;
+    let map = Map::new(&mut starts, counts, cpus, distances, pages.len(), jobs.len()).ok_or(1)?;
+    let mut free = Kept::new(free, counts.len()).ok_or(1)?;
     let (calls, rest) = calls.as_chunks();
-    let bad = |call: &[u64; 16]| call[0].wrapping_sub(1) > 4;
+    let bad = |call: &[u64; 16]| !matches!(call[0], 1..=5 | 16);
     if !rest.is_empty() || calls.iter().any(bad) {
         return Err(13);
     }
@@ -45,7 +49,7 @@ pub fn replay(
     }
     let jobs = jobs.as_chunks_mut().0;
     for (words, answer) in calls.iter().zip(answers.iter_mut()) {
-        *answer = call(&mut map, pages, jobs, words).word();
+        *answer = call(&map, pages, jobs, &mut free, words).word();
     }
     Ok(calls.len())
 }

@@ -15,8 +15,8 @@ const PIECE: usize = 256;
 fn main() {
     let rounds = std::env::args().nth(1).and_then(|rounds| rounds.parse().ok()).unwrap_or(15);
     let mut rows: Vec<Row> = [4, 16, 64].into_iter().flat_map(works).map(Row::new).collect();
-    for _ in 0..rounds {
-        rows.iter_mut().for_each(Row::round);
+    for round in 0..rounds {
+        rows.iter_mut().for_each(|row| row.round(round % 2 == 1));
     }
     println!("Nanoseconds per call, best of {rounds} rounds; ratio = proved library / careful Rust.");
     println!("Nodes have 65,536 pages, at N = 64 16,384: that is all there may be.\n");
@@ -46,10 +46,13 @@ impl Row {
         Row { work, best, agreed: None }
     }
 
-    /// Runs all ways in turns; every round must answer and leave the same.
-    fn round(&mut self) {
+    /// Runs all ways in turns; every round must answer and leave the same. Every other round goes backward, since the
+    /// second of two ways finds the calls in the cache.
+    fn round(&mut self, backward: bool) {
         let Row { work, best, agreed } = self;
-        for (way, name) in WAYS.into_iter().enumerate() {
+        for turn in 0..WAYS.len() {
+            let way = if backward { WAYS.len() - 1 - turn } else { turn };
+            let name = WAYS[way];
             let mut tables = work.start.clone();
             let mut answers = vec![0; work.calls.len()];
             let pieces = work.calls.chunks(PIECE).zip(work.words.chunks(16 * PIECE)).zip(answers.chunks_mut(PIECE));
@@ -91,15 +94,16 @@ fn each(mut turn: impl FnMut()) -> f64 {
 fn search_row(place: usize, rounds: usize) -> String {
     let mut pages = vec![77; 65_536];
     let mut jobs = vec![0, 0, 1, 0, 0, 0];
+    let mut free = [0];
     let mut best = [f64::MAX; 5];
     for _ in 0..rounds {
         let library = each(|| {
-            pages[place] = 0;
-            black_box(spirerivet::request(&[65_536], &[0], &[10], &mut pages, &mut jobs, 0, 0));
+            (pages[place], free[0]) = (0, 1);
+            black_box(spirerivet::request(&[65_536], &[0], &[10], &mut pages, &mut jobs, &mut free, 0, 0));
         });
         let rust = each(|| {
-            pages[place] = 0;
-            black_box(fast::request(&[65_536], &[0], &[10], &mut pages, &mut jobs, 0, 0));
+            (pages[place], free[0]) = (0, 1);
+            black_box(fast::request(&[65_536], &[0], &[10], &mut pages, &mut jobs, &mut free, 0, 0));
         });
         pages[place] = 0;
         let blocks = each(|| {

@@ -8,7 +8,6 @@ pub struct Record<'a>(&'a [u64; 6]);
 
 impl<'a> Record<'a> {
     /// The record in these words; none if it is not well formed.
-    #[inline]
     pub fn of(nodes: usize, words: &'a [u64; 6]) -> Option<Record<'a>> {
         let record = Record(words);
         let (mode, cursor, last) = (record.mode(), record.cursor(), record.last(nodes));

@@ -30,6 +30,7 @@ pub fn words_of(call: &Call) -> [u64; 16] {
             spirerivet::Call::Install { job: wide(job), mode: *mode, flag: *flag, mask: *mask, places }
         }
         Call::Clear { job } => spirerivet::Call::Clear { job: wide(job) },
+        Call::Fresh => spirerivet::Call::Fresh,
     })
 }
 
@@ -45,29 +46,31 @@ fn word_of(answer: Answer) -> u64 {
 
 /// One call by the library.
 fn library_call(nodes: usize, tables: &mut Tables, call: &Call) -> u64 {
-    let Tables { counts, cpus, distances, pages, jobs } = tables;
+    let Tables { counts, cpus, distances, pages, jobs, free } = tables;
     word_of(match call {
-        Call::Request { job, cpu } => spirerivet::request(counts, cpus, distances, pages, jobs, *job, *cpu),
-        Call::Release { job, page } => spirerivet::release(counts, pages, jobs, *job, *page),
+        Call::Request { job, cpu } => spirerivet::request(counts, cpus, distances, pages, jobs, free, *job, *cpu),
+        Call::Release { job, page } => spirerivet::release(counts, pages, jobs, free, *job, *page),
         Call::Install { job, mode, flag, mask, places } => {
             spirerivet::install(nodes, jobs, *job, *mode, *flag, *mask, places)
         }
         Call::Rebind { job, allowed } => spirerivet::rebind(nodes, jobs, *job, *allowed),
         Call::Clear { job } => spirerivet::clear(nodes, jobs, *job),
+        Call::Fresh => spirerivet::fresh(counts, pages, free),
     })
 }
 
 /// One call by the fast implementation.
 pub fn fast_call(nodes: usize, tables: &mut Tables, call: &Call) -> u64 {
-    let Tables { counts, cpus, distances, pages, jobs } = tables;
+    let Tables { counts, cpus, distances, pages, jobs, free } = tables;
     let out = match call {
-        Call::Request { job, cpu } => fast::request(counts, cpus, distances, pages, jobs, *job, *cpu),
-        Call::Release { job, page } => fast::release(counts, pages, jobs, *job, *page),
+        Call::Request { job, cpu } => fast::request(counts, cpus, distances, pages, jobs, free, *job, *cpu),
+        Call::Release { job, page } => fast::release(counts, pages, jobs, free, *job, *page),
         Call::Install { job, mode, flag, mask, places } => {
             fast::install(nodes, jobs, *job, *mode, *flag, *mask, places)
         }
         Call::Rebind { job, allowed } => fast::rebind(nodes, jobs, *job, *allowed),
         Call::Clear { job } => fast::clear(nodes, jobs, *job),
+        Call::Fresh => fast::fresh(counts, pages, free),
     };
     out.word()
 }
@@ -88,12 +91,12 @@ pub fn run(way: Way, tables: &mut Tables, calls: &[Call], words: &[u64], answers
             }
         }
         Way::LibraryReplay => {
-            let Tables { counts, cpus, distances, pages, jobs } = tables;
-            spirerivet::replay(counts, cpus, distances, pages, jobs, words, answers).expect("a good list");
+            let Tables { counts, cpus, distances, pages, jobs, free } = tables;
+            spirerivet::replay(counts, cpus, distances, pages, jobs, free, words, answers).expect("a good list");
         }
         Way::FastReplay => {
-            let Tables { counts, cpus, distances, pages, jobs } = tables;
-            list::replay(counts, cpus, distances, pages, jobs, words, answers).expect("a good list");
+            let Tables { counts, cpus, distances, pages, jobs, free } = tables;
+            list::replay(counts, cpus, distances, pages, jobs, free, words, answers).expect("a good list");
         }
     }
     begin.elapsed()

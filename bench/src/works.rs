@@ -31,6 +31,7 @@ fn machine(nodes: usize) -> Tables {
         distances,
         pages: vec![0; nodes * count as usize],
         jobs: vec![0; 64 * 6],
+        free: vec![count; nodes],
     };
     for job in 0..64 {
         assert_eq!(fast_call(nodes, &mut tables, &Call::Rebind { job, allowed: all_below(nodes) }) as u8, 0);
@@ -38,14 +39,16 @@ fn machine(nodes: usize) -> Tables {
     tables
 }
 
-/// The lowest part of each node held, each page by some job.
-fn fill(dice: &mut Dice, tables: &mut Tables, percent: usize) {
+/// The same with the lowest part of each node held, each page by some job; not counted yet.
+fn held_up_to(percent: usize, nodes: usize, dice: &mut Dice) -> Tables {
+    let mut tables = machine(nodes);
     let count = tables.counts[0] as usize;
     for node in tables.pages.chunks_mut(count) {
         for page in node.iter_mut().take(count * percent / 100) {
             *page = 1 + dice.below(64) as u8;
         }
     }
+    tables
 }
 
 /// A CPU of the job's own.
@@ -91,28 +94,32 @@ fn list(start: &Tables, how_many: usize, mut next: impl FnMut(&Tables, usize) ->
     calls
 }
 
-/// The four workloads for N nodes.
+/// The five workloads for N nodes. All free counts match.
 pub fn works(nodes: usize) -> Vec<Work> {
     let mut dice = Dice::new(nodes as u64);
     let empty = machine(nodes);
-    let mut half = machine(nodes);
-    fill(&mut dice, &mut half, 50);
-    let mut modes = machine(nodes);
-    fill(&mut dice, &mut modes, 25);
+    let half = held_up_to(50, nodes, &mut dice).counted();
+    let mut modes = held_up_to(25, nodes, &mut dice).counted();
     for job in 0..64 {
         let call = policy(&mut dice, nodes, job, job as u64 % 7);
         fast_call(nodes, &mut modes, &call);
     }
-    let mut full = machine(nodes);
-    fill(&mut dice, &mut full, 100);
+    let mut full = held_up_to(100, nodes, &mut dice);
     for _ in 0..8 {
         let page = dice.below(full.pages.len());
         full.pages[page] = 0;
     }
+    let full = full.counted();
     let filling = list(&empty, 16_384, |_, _| Call::Request { job: 0, cpu: 0 });
     let steady = list(&half, 8_192, |tables, turn| turns(&mut dice, tables, turn));
     let mixed = list(&modes, 8_192, |tables, _| mixture(&mut dice, nodes, tables));
     let nearly = list(&full, 1_024, |tables, turn| turns(&mut dice, tables, turn));
+    // Half way round lies the last node of near(0).
+    let mut last = held_up_to(100, nodes, &mut dice);
+    let far = last.pages.len() / 2;
+    last.pages[far..][..last.counts[0] as usize].fill(0);
+    let last = last.counted();
+    let fetched = list(&last, 1_024, |_, turn| there_and_back(far, turn));
     let named = |name, start, calls: Vec<Call>| {
         let words = calls.iter().flat_map(words_of).collect();
         Work { name, nodes, start, calls, words }
@@ -122,6 +129,7 @@ pub fn works(nodes: usize) -> Vec<Work> {
         named("steady, 64 jobs", half, steady),
         named("mixed modes", modes, mixed),
         named("nearly full", full, nearly),
+        named("all full but the last", last, fetched),
     ]
 }
 
@@ -133,6 +141,15 @@ fn turns(dice: &mut Dice, tables: &Tables, turn: usize) -> Call {
     }
     let job = dice.below(64);
     Call::Request { job, cpu: cpu_of(job) }
+}
+
+/// A request from node 0 and a release of its page in turns, one job after the other.
+fn there_and_back(page: usize, turn: usize) -> Call {
+    let job = turn / 2 % 64;
+    match turn % 2 {
+        0 => Call::Request { job, cpu: 0 },
+        _ => Call::Release { job, page },
+    }
 }
 
 /// Mostly requests and releases; some installs and rebinds.

@@ -1,9 +1,12 @@
-//! The careful Rust implementation against the second implementation.
+//! The careful Rust implementation against the second implementation, with free counts that match and with wrong ones.
+
+use std::collections::BTreeMap;
 
 use bench::fast;
 use bench::ways::{fast_call, words_of};
+use bench::works::{works, Work};
 use reference::calls::{apply, apply_with, Answer, Call, Tables};
-use reference::generate::{case, journal_parts, list, tables, Case};
+use reference::generate::{case, journal_parts, list, put_counts, tables, Case, Dice, SORTS_OF_COUNTS};
 
 /// The word of the second implementation's answer.
 fn word(answer: Answer) -> u64 {
@@ -15,8 +18,43 @@ fn word(answer: Answer) -> u64 {
     fast::Out { refusal, node, page }.word()
 }
 
+/// How often each kind of call that is lent counts was refused by each number, or not (0).
+#[derive(Default)]
+struct Seen(BTreeMap<(&'static str, u8), usize>);
+
+impl Seen {
+    fn note(&mut self, call: &Call, word: u64) {
+        let kind = match call {
+            Call::Request { .. } => "request",
+            Call::Release { .. } => "release",
+            Call::Fresh => "fresh",
+            _ => return,
+        };
+        *self.0.entry((kind, word as u8)).or_default() += 1;
+    }
+
+    /// Each of these was seen often.
+    fn all(&self, kind: &'static str, refusals: &[u8]) {
+        for refusal in refusals {
+            let seen = self.0.get(&(kind, *refusal)).copied().unwrap_or(0);
+            assert!(seen >= 20, "{kind} {refusal}: {:?}", self.0);
+        }
+    }
+}
+
+/// The same tables with free counts of every sort: matching, wrong, too few and too many.
+fn counts_of_every_sort(seed: u64, start: &Tables) -> Vec<Tables> {
+    let mut dice = Dice::new(seed);
+    let mut with = |sort| {
+        let mut tables = start.clone();
+        put_counts(&mut dice, &mut tables, sort);
+        tables
+    };
+    SORTS_OF_COUNTS.map(&mut with).into()
+}
+
 /// Makes the calls by both, one by one.
-fn same(told: &str, nodes: usize, start: Tables, calls: &[Call]) {
+fn same(told: &str, nodes: usize, start: Tables, calls: &[Call], seen: &mut Seen) {
     let mut fast_tables = start.clone();
     let mut tables = start;
     for (turn, call) in calls.iter().enumerate() {
@@ -24,43 +62,90 @@ fn same(told: &str, nodes: usize, start: Tables, calls: &[Call]) {
         let found = fast_call(nodes, &mut fast_tables, call);
         assert_eq!(found, expected, "{told} call {turn}: N {nodes} {call:?}");
         assert!(fast_tables == tables, "{told} call {turn}: N {nodes} {call:?}: tables differ");
+        seen.note(call, found);
     }
 }
 
 #[test]
 fn single_calls_agree() {
+    let mut seen = Seen::default();
     for seed in 0..10_000 {
         let Case { nodes, tables, call } = case(seed);
-        same(&format!("case {seed}"), nodes, tables, &[call]);
+        same(&format!("case {seed}"), nodes, tables, &[call], &mut seen);
     }
+    seen.all("request", &[0, 1, 2, 3, 4, 8, 14]);
+    seen.all("release", &[0, 1, 2, 10, 14]);
+    seen.all("fresh", &[0, 1]);
 }
 
 #[test]
 fn runs_of_calls_agree() {
+    let mut seen = Seen::default();
     for seed in 0..120 {
         let (nodes, start, calls) = tables(seed, 40);
-        same(&format!("tables {seed}"), nodes, start, &calls);
+        same(&format!("tables {seed}"), nodes, start, &calls, &mut seen);
         for (start, calls) in [list(seed, 150), journal_parts(seed, 150)] {
-            same(&format!("list {seed}"), start.counts.len(), start, &calls);
+            for start in counts_of_every_sort(seed, &start) {
+                same(&format!("list {seed}"), start.counts.len(), start, &calls, &mut seen);
+            }
         }
     }
+    seen.all("request", &[0, 1, 2, 3, 4, 8, 14]);
+    seen.all("release", &[0, 1, 2, 10, 14]);
+    seen.all("fresh", &[0, 1]);
+}
+
+/// Replays calls by the careful Rust.
+fn replay(tables: &mut Tables, words: &[u64], answers: &mut [u64]) -> Result<usize, u8> {
+    let Tables { counts, cpus, distances, pages, jobs, free } = tables;
+    bench::list::replay(counts, cpus, distances, pages, jobs, free, words, answers)
 }
 
 #[test]
 fn replays_agree() {
+    let mut seen = Seen::default();
     for seed in 200..300 {
         for (start, calls) in [list(seed, 150), journal_parts(seed, 150)] {
             let words: Vec<u64> = calls.iter().flat_map(words_of).collect();
-            let mut tables = start.clone();
-            let mut fast_tables = start;
-            let mut answers = vec![0; calls.len()];
-            let Tables { counts, cpus, distances, pages, jobs } = &mut fast_tables;
-            let ran = bench::list::replay(counts, cpus, distances, pages, jobs, &words, &mut answers);
-            assert_eq!(ran, Ok(calls.len()));
-            for (call, answer) in calls.iter().zip(answers) {
-                assert_eq!(answer, word(apply(&mut tables, call)), "seed {seed} {call:?}");
+            for start in counts_of_every_sort(seed, &start) {
+                let (mut tables, mut fast_tables, mut answers) = (start.clone(), start, vec![7; calls.len()]);
+                let ran = replay(&mut fast_tables, &words, &mut answers);
+                if tables.free.len() != tables.counts.len() {
+                    assert!(ran == Err(1) && fast_tables == tables && answers.iter().all(|answer| *answer == 7));
+                    continue;
+                }
+                assert_eq!(ran, Ok(calls.len()));
+                for (call, answer) in calls.iter().zip(answers) {
+                    assert_eq!(answer, word(apply(&mut tables, call)), "seed {seed} {call:?}");
+                    seen.note(call, answer);
+                }
+                assert!(fast_tables == tables, "seed {seed}");
             }
-            assert!(fast_tables == tables, "seed {seed}");
+        }
+    }
+    seen.all("request", &[0, 8, 14]);
+    seen.all("release", &[0, 10, 14]);
+    seen.all("fresh", &[0]);
+}
+
+#[test]
+fn the_timed_calls_agree_and_their_counts_match() {
+    for Work { name, nodes, start, calls, words } in [4, 16, 64].into_iter().flat_map(works) {
+        assert!(start.counts_match(), "{name} N {nodes}");
+        let (mut tables, mut single, mut run) = (start.clone(), start.clone(), start);
+        let mut answers = vec![0; calls.len()];
+        assert_eq!(replay(&mut run, &words, &mut answers), Ok(calls.len()));
+        let mut refused = 0;
+        for (call, answer) in calls.iter().zip(&answers) {
+            assert_eq!(*answer, word(apply(&mut tables, call)), "{name} N {nodes} {call:?}");
+            assert_eq!(*answer, fast_call(nodes, &mut single, call), "{name} N {nodes} {call:?}");
+            refused += usize::from(*answer as u8 != 0);
+        }
+        assert!(single == tables && run == tables && tables.counts_match(), "{name} N {nodes}");
+        assert!(refused * 10 < calls.len(), "{name} N {nodes}: {refused} refused");
+        if name == "all full but the last" {
+            let served = |answer: &u64| usize::from((*answer >> 8) as u8) == nodes / 2;
+            assert!(refused == 0 && answers.iter().all(served), "{name} N {nodes}");
         }
     }
 }
@@ -69,10 +154,9 @@ fn replays_agree() {
 fn both_replays(start: &Tables, words: &[u64], room: usize) -> Result<usize, u8> {
     let (mut one, mut other) = (start.clone(), start.clone());
     let (mut answers, mut expected) = (vec![7; room], vec![7; room]);
-    let Tables { counts, cpus, distances, pages, jobs } = &mut one;
-    let ran = bench::list::replay(counts, cpus, distances, pages, jobs, words, &mut answers);
-    let Tables { counts, cpus, distances, pages, jobs } = &mut other;
-    let told = spirerivet::replay(counts, cpus, distances, pages, jobs, words, &mut expected);
+    let ran = replay(&mut one, words, &mut answers);
+    let Tables { counts, cpus, distances, pages, jobs, free } = &mut other;
+    let told = spirerivet::replay(counts, cpus, distances, pages, jobs, free, words, &mut expected);
     assert_eq!(ran, told.map_err(|refusal| refusal.number()));
     assert!(one == other && answers == expected);
     ran
@@ -86,7 +170,7 @@ fn bad_lists_are_refused_alike() {
         assert_eq!(both_replays(&start, &words, calls.len()), Ok(calls.len()));
         assert_eq!(both_replays(&start, &words, calls.len() - 1), Err(11));
         assert_eq!(both_replays(&start, &words[1..], calls.len()), Err(13));
-        for kind in [0, 6, u64::MAX] {
+        for kind in [0, 6, 15, 17, u64::MAX] {
             let mut words = words.clone();
             words[16 * (seed as usize % calls.len())] = kind;
             assert_eq!(both_replays(&start, &words, calls.len()), Err(13));
@@ -94,6 +178,23 @@ fn bad_lists_are_refused_alike() {
         let mut broken = start.clone();
         broken.distances[0] = 11;
         assert_eq!(both_replays(&broken, &words, 0), Err(1));
+        for start in counts_of_every_sort(seed, &start) {
+            let fits = start.free.len() == start.counts.len();
+            assert_eq!(both_replays(&start, &words, calls.len()), if fits { Ok(calls.len()) } else { Err(1) });
+        }
+    }
+}
+
+#[test]
+fn a_fresh_table_takes_no_other_word_of_its_call() {
+    for seed in 0..60 {
+        let (start, _) = list(seed, 1);
+        let mut fresh = [u64::MAX; 16];
+        fresh[0] = 16;
+        for start in counts_of_every_sort(seed, &start) {
+            let fits = start.free.len() == start.counts.len();
+            assert_eq!(both_replays(&start, &fresh, 1), if fits { Ok(1) } else { Err(1) });
+        }
     }
 }
 

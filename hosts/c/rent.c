@@ -21,16 +21,28 @@ static const uint8_t distances[NODES * NODES] = {
 };
 static uint8_t pages[PAGES];
 static uint64_t jobs[JOBS * SPIRE_JOB_WORDS];
+static uint32_t free_counts[NODES];
 
 static struct spire_answer request(size_t cpu)
 {
     return spire_request(counts, NODES, cpus, CPUS, distances, sizeof distances, pages, PAGES,
-                         jobs, JOBS * SPIRE_JOB_WORDS, RENTER, cpu);
+                         jobs, JOBS * SPIRE_JOB_WORDS, free_counts, NODES, RENTER, cpu);
 }
 
 static struct spire_answer release(size_t page)
 {
-    return spire_release(counts, NODES, pages, PAGES, jobs, JOBS * SPIRE_JOB_WORDS, RENTER, page);
+    return spire_release(counts, NODES, pages, PAGES, jobs, JOBS * SPIRE_JOB_WORDS, free_counts, NODES, RENTER, page);
+}
+
+/* What a host does about SPIRE_WRONG_COUNT while pages are in use. */
+static void count_anew(void)
+{
+    size_t page = 0;
+    for (size_t node = 0; node < NODES; node++) {
+        free_counts[node] = 0;
+        for (size_t end = page + counts[node]; page < end; page++)
+            free_counts[node] += pages[page] == 0;
+    }
 }
 
 static void show(const char *call, struct spire_answer a)
@@ -41,6 +53,14 @@ static void show(const char *call, struct spire_answer a)
         printf("%s: done\n", call);
     else
         printf("%s: node %u, page %u\n", call, (unsigned)a.node, (unsigned)a.page);
+}
+
+static void show_free(void)
+{
+    printf("free:");
+    for (size_t node = 0; node < NODES; node++)
+        printf(" %lu", (unsigned long)free_counts[node]);
+    printf("\n");
 }
 
 static void show_nodes(const char *text)
@@ -60,17 +80,28 @@ int main(void)
     static const uint8_t places[] = {3, 3, 1};
     struct spire_answer a;
 
+    show("fresh", spire_fresh(counts, NODES, pages, PAGES, free_counts, NODES));
+    show_free();
     show("allow 0-3", spire_rebind(NODES, jobs, JOBS * SPIRE_JOB_WORDS, RENTER, 0xF));
     show("ring 3,3,1", spire_install(NODES, jobs, JOBS * SPIRE_JOB_WORDS, RENTER, SPIRE_RING, SPIRE_PLAIN, 0, places, sizeof places));
     do {
         a = request(0);
         show("request", a);
     } while (a.refusal == SPIRE_DONE);
+    show_free();
 
     show("release 2", release(2));
     show("release 2", release(2));
     show("request", request(0));
     show("request", request(CPUS));
+
+    free_counts[3] = 1; /* Another hand on the counts: node 3 is full. */
+    a = request(0);
+    show("request", a);
+    if (a.refusal == SPIRE_WRONG_COUNT)
+        count_anew();
+    show_free();
+    show("request", request(0));
 
     show_nodes("!1-2");
     show_nodes("5-3");

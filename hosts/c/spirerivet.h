@@ -4,12 +4,13 @@
  * must be valid and not null, even for a length of 0; a table that a call may write must overlap no other.
  * A refused call leaves every table as it was.
  *
- *   counts     pages of each node; its length is N, the number of nodes, 1 to 64
- *   cpus       the node of each CPU, 1 to 256 bytes
- *   distances  N x N bytes, row by row: 10 on the diagonal, 255 for unreachable
- *   pages      a byte for each page, node 0's first: 0 free, j + 1 held by job j
- *   jobs       SPIRE_JOB_WORDS words for each of 1 to 64 jobs; all zero: a fresh job
- *   masks      bit n stands for node n
+ *   counts       pages of each node; its length is N, the number of nodes, 1 to 64
+ *   cpus         the node of each CPU, 1 to 256 bytes
+ *   distances    N x N bytes, row by row: 10 on the diagonal, 255 for unreachable
+ *   pages        a byte for each page, node 0's first: 0 free, j + 1 held by job j
+ *   jobs         SPIRE_JOB_WORDS words for each of 1 to 64 jobs; all zero: a fresh job
+ *   free_counts  the number of free pages of each node, N counts: spire_fresh makes them, request and release keep them up
+ *   masks        bit n stands for node n
  */
 #ifndef SPIRERIVET_H
 #define SPIRERIVET_H
@@ -31,19 +32,22 @@ extern "C" {
 /* The number in `refusal`. */
 enum spire_refusal {
     SPIRE_DONE = 0,
-    SPIRE_BAD_TABLES = 1,         /* the machine's tables or the job table's length break the rules */
+    SPIRE_BAD_TABLES = 1,         /* the machine's tables, or the number of job words or free counts, break the rules */
     SPIRE_NO_SUCH_JOB = 2,
     SPIRE_NO_SUCH_CPU = 3,
     SPIRE_MALFORMED_RECORD = 4,   /* the job's six words are no record; clear makes them one */
     SPIRE_UNKNOWN_POLICY = 5,     /* no such mode or flag, or a flag that this mode does not take */
     SPIRE_DOES_NOT_FIT = 6,       /* the mask or the places do not fit */
     SPIRE_NOTHING_ALLOWED = 7,    /* the allowed set is empty */
-    SPIRE_NO_ROOM = 8,            /* no node in the search order has a free page */
+    SPIRE_NO_ROOM = 8,            /* every node in the search order is counted 0: full, if the counts match */
     SPIRE_NOTHING_EFFECTIVE = 9,  /* the rebind would leave the job's mask empty */
     SPIRE_NOT_HELD = 10,          /* no such page, or not this job's */
     SPIRE_OUTPUT_TOO_SHORT = 11,
     SPIRE_BAD_TEXT = 12,
-    SPIRE_DAMAGED_JOURNAL = 13    /* a replay's list of calls has an unknown kind or is cut short */
+    SPIRE_DAMAGED_JOURNAL = 13,   /* a replay's list of calls has an unknown kind or is cut short */
+    SPIRE_WRONG_COUNT = 14        /* a free count disagrees with the page table: a node counted above 0 has no free page, or
+                                   * a release would count more free pages than its node has. Count the free pages of each
+                                   * node anew, or call spire_fresh when no page is in use */
 };
 
 enum spire_mode {
@@ -71,14 +75,23 @@ struct spire_number {
     uint64_t value;
 };
 
-/* A page for a job that runs on a CPU: its node and its number. Writes pages and jobs. Refusals 1, 2, 3, 4, 8. */
+/* A page for a job that runs on a CPU: its node and its number. Nodes counted 0 are passed over. Writes pages, jobs and
+ * free_counts. Refusals 1, 2, 3, 4, 14, 8. */
 struct spire_answer spire_request(const uint32_t *counts, size_t nodes, const uint8_t *cpus, size_t cpu_count,
                                   const uint8_t *distances, size_t distance_count, uint8_t *pages, size_t page_count,
-                                  uint64_t *jobs, size_t job_words, size_t job, size_t cpu);
+                                  uint64_t *jobs, size_t job_words, uint32_t *free_counts, size_t free_len,
+                                  size_t job, size_t cpu);
 
-/* A page given back by the job that holds it: its node and its number. Writes pages. Refusals 1, 2, 10. */
+/* A page given back by the job that holds it: its node and its number. Writes pages and free_counts. Refusals 1, 2, 10,
+ * 14. */
 struct spire_answer spire_release(const uint32_t *counts, size_t nodes, uint8_t *pages, size_t page_count,
-                                  const uint64_t *jobs, size_t job_words, size_t job, size_t page);
+                                  const uint64_t *jobs, size_t job_words, uint32_t *free_counts, size_t free_len,
+                                  size_t job, size_t page);
+
+/* Every page of the machine made free, and counted: what a host begins with. Writes pages, none past the last one, and
+ * free_counts. Refusal 1. */
+struct spire_answer spire_fresh(const uint32_t *counts, size_t nodes, uint8_t *pages, size_t page_count,
+                                uint32_t *free_counts, size_t free_len);
 
 /* A job's policy: a mask (modes 1 to 3) or places, a node number each (modes 4 to 6). Writes jobs. Refusals 1, 2, 4, 5, 7, 6. */
 struct spire_answer spire_install(size_t nodes, uint64_t *jobs, size_t job_words, size_t job, uint64_t mode, uint64_t flag,
@@ -97,15 +110,16 @@ struct spire_number spire_read_nodes(size_t nodes, uint64_t allowed, const uint8
 struct spire_number spire_write_nodes(size_t nodes, uint64_t mask, uint8_t *out, size_t out_bytes);
 
 /* A list of calls, one after the other: how many. A call is SPIRE_CALL_WORDS words: kind (1 request, 2 release, 3 rebind,
- * 4 install, 5 clear); job; CPU, page, allowed mask or mode; flag; user mask; number of places; two words unused; then the
- * first 64 places, one byte each, lowest byte first. Any number of places may be said, those past the 64th are zero: over
- * SPIRE_PLACES of them the install is refused in its own order, as in spire_install. An answer is one word: refusal in bits
- * 0-7, node in 8-15, page in 32-63. Writes pages, jobs and an answer for each call. Refusals, then with no call run: 1; 13
- * (an unknown kind, or call_words no multiple of SPIRE_CALL_WORDS); 11 (fewer answers than calls). */
+ * 4 install, 5 clear, 16 fresh); job; CPU, page, allowed mask or mode; flag; user mask; number of places; two words unused;
+ * then the first 64 places, one byte each, lowest byte first. Any number of places may be said, those past the 64th are
+ * zero: over SPIRE_PLACES of them the install is refused in its own order, as in spire_install. A fresh has its kind alone.
+ * An answer is one word: refusal in bits 0-7, node in 8-15, page in 32-63. Writes pages, jobs, free_counts and an answer
+ * for each call. Refusals, then with no call run: 1; 13 (an unknown kind, or call_words no multiple of SPIRE_CALL_WORDS); 11
+ * (fewer answers than calls). */
 struct spire_number spire_replay(const uint32_t *counts, size_t nodes, const uint8_t *cpus, size_t cpu_count,
                                  const uint8_t *distances, size_t distance_count, uint8_t *pages, size_t page_count,
-                                 uint64_t *jobs, size_t job_words, const uint64_t *calls, size_t call_words,
-                                 uint64_t *answers, size_t answer_count);
+                                 uint64_t *jobs, size_t job_words, uint32_t *free_counts, size_t free_len,
+                                 const uint64_t *calls, size_t call_words, uint64_t *answers, size_t answer_count);
 
 /* A whole journal, machine record first: the length of its answers, 12 bytes each. Writes that many bytes of output. Refusal
  * 11, exactly when output is shorter than that; 12 bytes for each 32 of the input, and 12 more, are always enough. */

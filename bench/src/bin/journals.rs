@@ -43,43 +43,45 @@ fn measure(placer: &str, rounds: usize) -> Result<(), String> {
     Ok(())
 }
 
-/// The best times on each journal. All journals take turns, so that a busy moment spoils few rounds of any.
+/// The best times on each journal. All journals take turns, so that a busy moment spoils few rounds of any; and neither
+/// program is always the first, nor has fresh memory to be read into, which made the second one seem slower.
 fn best_of(programs: &[PathBuf; 2], folder: &Path, all: &[Journal], rounds: usize) -> Result<Vec<Best>, String> {
     let mut best = vec![[Duration::MAX; 2]; all.len()];
     for journal in all {
         let file = folder.join(journal.name);
         std::fs::write(&file, &journal.bytes).map_err(|error| format!("{}: {error}", file.display()))?;
     }
-    for _ in 0..rounds {
+    let mut answers = [Vec::new(), Vec::new()];
+    for round in 0..rounds {
         for (journal, best) in all.iter().zip(&mut best) {
             let file = folder.join(journal.name);
-            let (proved, expected) = run(&programs[0], &file)?;
-            let (careful, found) = run(&programs[1], &file)?;
-            if expected != found || found.len() != 12 * journal.records {
+            for turn in [round % 2, 1 - round % 2] {
+                best[turn] = best[turn].min(run(&programs[turn], &file, &mut answers[turn])?);
+            }
+            if answers[0] != answers[1] || answers[0].len() != 12 * journal.records {
                 return Err(format!("{}: the answers differ", journal.name));
             }
-            *best = [best[0].min(proved), best[1].min(careful)];
         }
     }
     Ok(best)
 }
 
-/// Runs a program on a journal: the time from its start to its end, and all that it wrote.
-fn run(program: &Path, journal: &Path) -> Result<(Duration, Vec<u8>), String> {
+/// Runs a program on a journal and takes all that it writes; gives the time from its start to its end.
+fn run(program: &Path, journal: &Path, answers: &mut Vec<u8>) -> Result<Duration, String> {
     let told = |error| format!("{}: {error}", program.display());
     let input = File::open(journal).map_err(told)?;
-    let mut answers = Vec::with_capacity(1 << 20);
+    answers.clear();
     let begin = Instant::now();
     let mut child = Command::new(program).stdin(input).stdout(Stdio::piped()).spawn().map_err(told)?;
     if let Some(mut output) = child.stdout.take() {
-        output.read_to_end(&mut answers).map_err(told)?;
+        output.read_to_end(answers).map_err(told)?;
     }
     let status = child.wait().map_err(told)?;
     let time = begin.elapsed();
     if !status.success() {
         return Err(format!("{}: {status}", program.display()));
     }
-    Ok((time, answers))
+    Ok(time)
 }
 
 /// The table; the first journal is the machine record alone, whose time is taken off the others.

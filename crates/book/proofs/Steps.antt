@@ -5,12 +5,12 @@ use mathlib.Core.Path.{_≡_, sym, _∙_}
 use mathlib.Core.List.{List}
 use Rattle.rules.specs.Machine.{Machine, nodeCount}
 use Rattle.rules.specs.Records.{Policy, policy}
-use Rattle.rules.specs.Calls.{Answer, Tables, outcome, onRequest, onRelease, onInstall, onRebind, onClear}
-use Rattle.rules.specs.Book.{Call as LawCall, request, release, rebind, clear, decision, step}
+use Rattle.rules.specs.Calls.{Answer, Tables, outcome, onRequest, onRelease, onFresh, onInstall, onRebind, onClear}
+use Rattle.rules.specs.Book.{Call as LawCall, request, release, rebind, clear, freshTable, decision, step}
 use Rattle.records.specs.declared.policy.Policy.{Policy as Asked}
 use Rattle.records.specs.Jobs.{Asks}
 use Rattle.book.specs.declared.Call.{Call}
-use Rattle.book.specs.declared.Call.the-variants.{Request, Release, Rebind, Install, Clear}
+use Rattle.book.specs.declared.Call.the-variants.{Request, Release, Rebind, Install, Clear, Fresh}
 use Rattle.book.specs.Says.{Says}
 
 module _ (m : Machine) (t after : Tables) (a : Answer) (call : Call) (places : List ℕ) (c : LawCall) (s : Says call places c) where
@@ -33,6 +33,11 @@ module _ (m : Machine) (t after : Tables) (a : Answer) (call : Call) (places : L
   pub did-clear : {j : ℕ} → call ≡ Clear j → outcome a after ≡ onClear (nodeCount m) t j → outcome a after ≡ step m t c
   unfolding step decision onClear
   did-clear {j} e o = let q : c ≡ clear j = rw e at s in rw q o
+
+  -- a fresh table
+  pub did-fresh : call ≡ Fresh → outcome a after ≡ onFresh (m .pageCounts) t → outcome a after ≡ step m t c
+  unfolding step decision onFresh
+  did-fresh e o = let q : c ≡ freshTable = rw e at s in rw q o
 
   -- an install: for the policy that the value asks for
   pub did-install : {j mode flag mask len : ℕ} (asked : Asked) → call ≡ Install j mode flag mask len

@@ -39,6 +39,7 @@ pub enum Call {
     Clear {
         job: usize,
     },
+    Fresh,
 }
 
 // Runs a call on tables that are in order.
@@ -49,19 +50,20 @@ pub fn perform(
     distances: &[u8],
     pages: &mut [u8],
     jobs: &mut [u64],
+    free: &mut [u32],
     call: Call,
     places: [u8; PLACES_PER_JOB],
 ) -> Answer
-    requires { ⌜ (requestTablesOk (machineOf (now counts) (now cpus) (now distances)) (tablesOf (now pages) (now jobs)) ≡ true) × Starts (now counts) (now starts) ⌝ }
-    ensures { λ r. ⌜ ((c : LawCall) → Says call places c → outcome (answerOf r) (tablesOf (now (pages .exit)) (now (jobs .exit))) ≡ step (machineOf (now (counts .entry)) (now (cpus .entry)) (now (distances .entry))) (tablesOf (now (pages .entry)) (now (jobs .entry))) c) ⌝ }
+    requires { ⌜ (requestTablesOk (machineOf (now counts) (now cpus) (now distances)) (tablesOf (now pages) (now jobs) (now free)) ≡ true) × Starts (now counts) (now starts) ⌝ }
+    ensures { λ r. ⌜ ((c : LawCall) → Says call places c → outcome (answerOf r) (tablesOf (now (pages .exit)) (now (jobs .exit)) (now (free .exit))) ≡ step (machineOf (now (counts .entry)) (now (cpus .entry)) (now (distances .entry))) (tablesOf (now (pages .entry)) (now (jobs .entry)) (now (free .entry))) c) ⌝ }
 {
     let nodes = counts.len();
     match call {
         Call::Request { job, cpu } => {
-            placement::request_at(counts, starts, cpus, distances, pages, jobs, job, cpu)
+            placement::request_at(counts, starts, cpus, distances, pages, jobs, free, job, cpu)
         }
         Call::Release { job, page } => {
-            placement::release_at(counts, starts, pages, jobs, job, page)
+            placement::release_at(counts, starts, pages, jobs, free, job, page)
         }
         Call::Rebind { job, allowed } => records::rebind_at(nodes, jobs, job, allowed),
         Call::Install {
@@ -81,5 +83,6 @@ pub fn perform(
             records::install_at(nodes, jobs, job, policy)
         }
         Call::Clear { job } => records::clear_at(nodes, jobs, job),
+        Call::Fresh => placement::fresh_at(counts, starts, pages, free),
     }
 }

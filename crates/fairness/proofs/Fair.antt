@@ -224,17 +224,17 @@ interleave-fair m j P three c gs l k long = record {
 
 -- ---- the demand
 
--- Demand 3 holds of every list of calls, from any tables.
+-- Demand 3 holds of every list of calls, from any tables whose counts match.
 pub demand3 : (m : Machine) (t : Tables) (cs : List Call) → Demand3 m t cs
-demand3 m t cs j u = record {
+demand3 m t cs a j u = record {
   ring = λ five k s long. let c = in-row s (k * recordIn t j .len) in ring-fair m j (recordIn t j) five (c .0) _ (c .1) k long;
   interleave = λ three k s long.
       let c = in-row s (k * size mostNodes (recordIn t j .effective)) in
       interleave-fair m j (recordIn t j) three (c .0) _ (c .1) k long;
-  ring-page = λ five. ring-pages m j (recordIn t j) (recordIn t j .turn) (grants m j t cs) five (linked m j t cs u);
+  ring-page = λ five. ring-pages m j (recordIn t j) (recordIn t j .turn) (grants m j t cs) five (linked m j t cs a u);
 }
   where
     in-row : (s n : ℕ) → (c : Turn) × Linked m j (recordIn t j) c (row m j t cs s n)
     in-row s n =
-        let d = linked-drop m j (recordIn t j) (recordIn t j .turn) (grants m j t cs) s (linked m j t cs u) in
+        let d = linked-drop m j (recordIn t j) (recordIn t j .turn) (grants m j t cs) s (linked m j t cs a u) in
         (d .0, linked-take m j (recordIn t j) (d .0) (drop s (grants m j t cs)) n (d .1))

@@ -13,8 +13,9 @@ use Rattle.rules.specs.Basics.{keep, first, around, between}
 use Rattle.rules.specs.Machine.{Machine, nodeCount}
 use Rattle.rules.specs.Masks.{mostNodes, bit, has, isEmpty}
 use Rattle.rules.specs.Records.{Record, Turn, lastIs, interleave, ring, rowOf, dataFits, noMasks, wellFormed, placesPerJob}
-use Rattle.rules.specs.SearchOrder.{Try, try, near, tried, nodeAt, ringTries, target, interleaved, planIn, modeInForce, plan, order, hasRoom, chosen}
+use Rattle.rules.specs.SearchOrder.{Try, try, near, tried, nodeAt, ringTries, target, interleaved, planIn, modeInForce, plan, order, hasRoom}
 use Rattle.rules.specs.Calls.{Tables, limitOf, orderOf}
+use Rattle.rules.specs.FreeCounts.{firstWithRoom}
 use Rattle.rules.proofs.Lists.{both-true, map-member, first-keep, first-member}
 use Rattle.rules.proofs.Masks.{bit-above}
 use Rattle.rules.proofs.Near.{near-order}
@@ -97,8 +98,8 @@ pub record RingGrant (m : Machine) (t : Tables) (j : ℕ) (s : Try) : Type 0 whe
   pub serves : s .node ≡ nodeAt (recordIn t j) place
 
 pub ring-grant : (m : Machine) (t : Tables) (j k : ℕ) (s : Try) → wellFormed (nodeCount m) (recordIn t j) ≡ true → recordIn t j .mode ≡ 5
-    → chosen (m .pageCounts) (t .ledger) (orderOf m t j k) ≡ some s → RingGrant m t j s
-unfolding chosen orderOf order plan planIn tried ringTries placeOpen isOpen
+    → firstWithRoom (m .pageCounts) (t .ledger) (orderOf m t j k) ≡ some s → RingGrant m t j s
+unfolding firstWithRoom orderOf order plan planIn tried ringTries placeOpen isOpen
 ring-grant m t j k s w five e =
     let J = recordIn t j in
     let r =
@@ -125,14 +126,14 @@ pub record InterleaveGrant (m : Machine) (t : Tables) (j : ℕ) (s : Try) : Type
   pub serves : isOpen m t j goal ≡ true → s .node ≡ goal
 
 -- every try of near(x) leaves the same turn
-chosen-turn : (room : Try → Bool) (turn : Turn) (ns : List ℕ) (s : Try) → first (keep room (map (try turn) ns)) ≡ some s → s .turn ≡ turn
-chosen-turn room turn ns s e =
+first-turn : (room : Try → Bool) (turn : Turn) (ns : List ℕ) (s : Try) → first (keep room (map (try turn) ns)) ≡ some s → s .turn ≡ turn
+first-turn room turn ns s e =
     let f = first-keep room (map (try turn) ns) e in
     ap (λ (u : Try). u .turn) (map-member (try turn) ns (first-member f) .2)
 
 pub interleave-grant : (m : Machine) (t : Tables) (j k q : ℕ) (s : Try) → recordIn t j .mode ≡ 3 → has (recordIn t j .effective) q ≡ true
-    → chosen (m .pageCounts) (t .ledger) (orderOf m t j k) ≡ some s → InterleaveGrant m t j s
-unfolding chosen orderOf order plan planIn isOpen interleaved target tried first keep
+    → firstWithRoom (m .pageCounts) (t .ledger) (orderOf m t j k) ≡ some s → InterleaveGrant m t j s
+unfolding firstWithRoom orderOf order plan planIn isOpen interleaved target tried first keep
 interleave-grant m t j k q s three h e =
     go (target (recordIn t j .effective) (recordIn t j .turn .cursor)) refl (rw (in-interleave (recordIn t j) q three h) at e)
   where
@@ -163,4 +164,4 @@ interleave-grant m t j k q s three h e =
         → first (keep room (order (nodeCount m) (m .distances) limit (interleaved limit o))) ≡ some s → InterleaveGrant m t j s
     go none q e = absurd (let z : _≡_ {A = ℕ} 0 1 = cc in omega arith)
     go (some x) q e =
-        record { goal = x; by-turn = q; moves = chosen-turn room (lastIs x) (nodes x) s e; serves = open-serves x e }
+        record { goal = x; by-turn = q; moves = first-turn room (lastIs x) (nodes x) s e; serves = open-serves x e }

@@ -13,7 +13,8 @@ use Rattle.rules.specs.Masks.{mostNodes, has, size}
 use Rattle.rules.specs.Records.{Record, recordAt}
 use Rattle.rules.specs.SearchOrder.{nodeAt, hasRoom}
 use Rattle.rules.specs.Calls.{Answer, granted, released, done, refused, Tables, limitOf}
-use Rattle.rules.specs.Book.{Call, request, release, install, rebind, clear, step}
+use Rattle.rules.specs.Book.{Call, request, release, install, rebind, clear, freshTable, step}
+use Rattle.rules.specs.FreeCounts.{Matches}
 
 -- the record of job j in some tables
 abbrev pub recordIn : Tables → ℕ → Record
@@ -37,6 +38,7 @@ grantIn m j t (release i p) = []
 grantIn m j t (install i p) = []
 grantIn m j t (rebind i allowed) = []
 grantIn m j t (clear i) = []
+grantIn m j t freshTable = []
 
 -- "whatever other jobs do between them": those in a list of calls, in their order
 unfoldable pub grants : Machine → ℕ → Tables → List Call → List Grant
@@ -51,6 +53,7 @@ setsPolicy j (release i p) = false
 setsPolicy j (install i p) = eqb i j
 setsPolicy j (rebind i allowed) = eqb i j
 setsPolicy j (clear i) = false
+setsPolicy j freshTable = false
 
 unfoldable pub isRefused : Answer → Bool
 isRefused (granted n p) = false
@@ -117,5 +120,6 @@ pub record Fair (m : Machine) (t : Tables) (cs : List Call) (j : ℕ) : Type 0 w
   pub ring-page : recordIn t j .mode ≡ 5
       → Each (λ g. (p : ℕ) × (placeGranted m j g ≡ some p) × (nodeGranted m g ≡ nodeAt (recordIn (g .before) j) p)) (grants m j t cs)
 
+-- M-100: "Demands 2 and 3 then read for matching counts": they match at the start
 abbrev pub Demand3 : Machine → Tables → List Call → Type 0
-Demand3 m t cs = (j : ℕ) → PolicyKept m j t cs → Fair m t cs j
+Demand3 m t cs = Matches (m .pageCounts) t → (j : ℕ) → PolicyKept m j t cs → Fair m t cs j

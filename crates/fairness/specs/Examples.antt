@@ -10,7 +10,7 @@ use Rattle.rules.specs.Machine.{openMachine}
 use Rattle.rules.specs.Masks.{openMasks}
 use Rattle.rules.specs.Records.{openRecords, wordsPerJob}
 use Rattle.rules.specs.SearchOrder.{openSearchOrder}
-use Rattle.rules.specs.Calls.{openCalls, Tables, numbers}
+use Rattle.rules.specs.Calls.{openCalls, Tables, tablesOf, numbers}
 use Rattle.rules.specs.Book.{openBook, Call, request, release, rebind, clear, step, answers, final}
 use Rattle.rules.specs.Examples.{machineA, installs}
 use Rattle.fairness.specs.Demand3.{Grant, grantBy, grantIn, grants, setsPolicy, isRefused, PolicyKept, isOpen, placeOpen, placeGranted}
@@ -28,7 +28,7 @@ openAll = tt
 
 -- the tables that these calls leave, from all pages free and two fresh jobs
 abbrev pub made : List Call → Tables
-made cs = final machineA (record { ledger = replicate 6 0; records = replicate (wordsPerJob * 2) 0 }) cs
+made cs = final machineA (tablesOf (replicate 6 0) (replicate (wordsPerJob * 2) 0) (machineA .pageCounts)) cs
 
 -- job 0 on nodes 0, 1 and 3 in this mode, job 1 default
 abbrev pub start : ℕ → ℕ → List ℕ → Tables
@@ -96,10 +96,11 @@ pair = made (rebind 0 10 ∷ installs 0 3 0 10 [] ∷ [])
 abbrev pub after : Call → List Call
 after c = c ∷ request 0 0 ∷ request 0 0 ∷ []
 
--- both are granted; node 3 "is allowed and has a free page before each of these requests", and neither is granted there
-abbrev pub starves : Call → Bool
-starves c =
-    let gs = row machineA 0 pair (after c) 0 2 in
+-- the first two requests of job 0 are granted; node 3 "is allowed and has a free page before each of these requests", and neither is granted
+-- there
+abbrev pub starves : Tables → List Call → Bool
+starves t cs =
+    let gs = row machineA 0 t cs 0 2 in
     eqb (length gs) 2 && all (λ g. isOpen machineA (g .before) 0 3) gs && eqb (timesNode machineA 3 gs) 0
 
 -- the call is one "to set its policy or limits", and is not refused: demand 3 does not speak of the list
@@ -108,9 +109,23 @@ barred c = setsPolicy 0 c && not (isRefused (step machineA pair c .answer))
 
 -- the claim is false of the list, and its premise keeps the list out
 abbrev pub spoils : Call → Bool
-spoils c = starves c && barred c
+spoils c = starves pair (after c) && barred c
 
 -- a rebind to nodes 0, 1 and 3 makes nodes 0 and 1 the effective ones; an install of node 1 alone leaves node 3 out likewise
 pub premise-needed : T (spoils (rebind 0 11) && spoils (installs 0 3 0 2 []))
 unfolding openAll
 premise-needed = tt
+
+-- ---- why the counts have to match
+
+-- the same job, with node 3 counted 0 though both its pages are free
+abbrev pub miscounted : Tables
+miscounted = tablesOf (pair .ledger) (pair .records) (2 ∷ 2 ∷ 0 ∷ 0 ∷ [])
+
+-- two requests, and no call that sets a policy
+abbrev pub twice : List Call
+twice = request 0 0 ∷ request 0 0 ∷ []
+
+pub matching-needed : T (starves miscounted twice)
+unfolding openAll
+matching-needed = tt

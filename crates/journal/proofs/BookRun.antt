@@ -3,7 +3,7 @@
 use Prim.Native.Nat.{ℕ, zero, suc, _+_, _*_, _/_, _≤_, _<_}
 use mathlib.Core.Path.{_≡_, refl, sym, ap, _∙_}
 use mathlib.Core.Bool.{Bool, true, false, cond}
-use mathlib.Core.List.{List, [], _∷_, _++_, map, append-assoc}
+use mathlib.Core.List.{List, [], _∷_, _++_, map, append-assoc, append-nil}
 use native.Mathlib.Omega.{arith}
 use borrow.Author.Tests.{ltb-true, lt-ltb, le-ltb}
 use lib.Dec.{ltb}
@@ -12,12 +12,15 @@ use lib.Seq.{drop-drop}
 use Rattle.rules.specs.Basics.{sum}
 use Rattle.rules.specs.Machine.{Machine}
 use Rattle.rules.specs.Decisions.{Decision, refuse, accept, decided}
-use Rattle.rules.specs.Calls.{Tables, numbers}
+use Rattle.rules.specs.Calls.{Answer, Tables, numbers}
 use Rattle.rules.specs.Book.{step, answers, final}
+use Rattle.rules.specs.FreeCounts.{Matches}
 use Rattle.rules.specs.Journal.{Entry, faulty, readRecord, machineIn, startOf, opening, runFrom, journal}
 use Rattle.rules.proofs.Lists.{same-test}
+use Rattle.rules.proofs.FreeCounts.{all-free}
+use Rattle.rules.proofs.AsBefore.{answers-as-before}
 use Rattle.journal.specs.Parts.{answerSize, runOf, isReady, ran, answerTo, oneRecord, after, partFrom, putInto, onPart}
-use Rattle.journal.specs.BookRun.{recordsFrom, recordsIn, past, answerLines, bookLines, ending, bookRun, meetsDamage, bookPart}
+use Rattle.journal.specs.BookRun.{recordsFrom, recordsIn, past, calls, answerLines, bookLines, ending, bookRun, uncountedRun, meetsDamage, bookPart}
 use Rattle.journal.proofs.Records.{short-left, short-damaged, good-record, damage}
 use Rattle.journal.proofs.Answers.{answer-length, fault-length, enough, run-next, run-damaged}
 use Rattle.journal.proofs.Parts.{done, part-waits}
@@ -165,3 +168,21 @@ journal-opened bs {k} h =
 -- after a good machine record, the book's run on "64 fresh jobs"
 pub journal-is-book : (bs : List ℕ) {k : ℕ} → opening bs ≡ accept k → journal bs ≡ bookRun (machineIn bs) (startOf (machineIn bs)) (drop k bs)
 journal-is-book bs {k} h = journal-opened bs h ∙ run-is-book (machineIn bs) (startOf (machineIn bs)) (drop k bs)
+
+-- ---- M-100: "every call answers as before"
+
+-- a run on counts that match answers as the law without counts does
+pub run-as-before : (m : Machine) (t : Tables) (bs : List ℕ) → Matches (m .pageCounts) t → bookRun m t bs ≡ uncountedRun m t bs
+run-as-before m t bs a =
+    ap (λ (given : List Answer). answerLines (recordsIn bs) given ++ ending (past bs (recordsIn bs))) (answers-as-before m t (calls (recordsIn bs)) a)
+
+-- a journal starts on counts that match: every page is free
+pub start-matches : (m : Machine) → Matches (m .pageCounts) (startOf m)
+unfolding startOf
+start-matches m = sym (rw append-nil at (all-free (m .pageCounts) []))
+
+-- so its answers are those of the law without counts
+pub journal-as-before : (bs : List ℕ) {k : ℕ} → opening bs ≡ accept k → journal bs ≡ uncountedRun (machineIn bs) (startOf (machineIn bs)) (drop k bs)
+journal-as-before bs {k} h =
+    let m = machineIn bs in
+    journal-is-book bs h ∙ run-as-before m (startOf m) (drop k bs) (start-matches m)

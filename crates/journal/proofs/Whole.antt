@@ -1,15 +1,15 @@
 -- A whole journal: what the run starts with, and what it comes to.
 -- Assumes nothing.
 use Prim.Native.Nat.{ℕ, _*_, _/_, _≤_, _<_}
-use mathlib.Core.Path.{_≡_, sym, ap, _∙_}
+use mathlib.Core.Path.{_≡_, refl, sym, ap, _∙_}
 use mathlib.Core.Bool.{true}
 use mathlib.Core.List.{List, _++_}
 use native.Mathlib.Omega.{arith}
-use borrow.Author.Tests.{le-leb, lt-leb}
+use borrow.Author.Tests.{le-leb, lt-leb, eq-eqb}
 use lib.ListN.{length, take, drop, replicate, length-replicate}
 use lib.Seq.{take-length}
 use Rattle.rules.specs.Basics.{sum}
-use Rattle.rules.specs.Machine.{Machine, pageTableOk}
+use Rattle.rules.specs.Machine.{Machine, nodeCount, pageTableOk}
 use Rattle.rules.specs.Records.{wordsPerJob, mostJobs, jobTableOk}
 use Rattle.rules.specs.Decisions.{refuse, accept, written}
 use Rattle.rules.specs.Calls.{Tables, tablesOf, requestTablesOk}
@@ -24,11 +24,11 @@ use Rattle.journal.proofs.BookRun.{journal-refused}
 
 -- ---- the start
 
--- "64 fresh jobs", and as many free pages as there are pages
-pub start-lent : (m : Machine) {pages jobs : List ℕ} {total : ℕ} → pages ≡ replicate journalPages 0 → jobs ≡ replicate (wordsPerJob * mostJobs) 0
-    → total ≡ sum (m .pageCounts) → sum (m .pageCounts) ≤ journalPages → tablesOf (take total pages) jobs ≡ startOf m
+-- "64 fresh jobs", as many free pages as there are pages, and these counted
+pub start-lent : (m : Machine) {pages jobs free : List ℕ} {total : ℕ} → pages ≡ replicate journalPages 0 → jobs ≡ replicate (wordsPerJob * mostJobs) 0
+    → free ≡ m .pageCounts → total ≡ sum (m .pageCounts) → sum (m .pageCounts) ≤ journalPages → tablesOf (take total pages) jobs free ≡ startOf m
 unfolding startOf
-start-lent m p q e few = rw (p, q, e, zeros-take (sum (m .pageCounts)) journalPages few)
+start-lent m p q f e few = rw (p, q, f, e, zeros-take (sum (m .pageCounts)) journalPages few)
 
 -- they are in order
 pub start-ok : (bs : List ℕ) {k : ℕ} {t : Tables} → opening bs ≡ accept k → t ≡ startOf (machineIn bs) → Opened bs t
@@ -36,7 +36,11 @@ unfolding requestTablesOk startOf pageTableOk jobTableOk
 start-ok bs v q =
     let g = good-opening bs v in
     let s = sum (machineIn bs .pageCounts) in
-    record { good = v ∙ ap (λ (k : ℕ). accept k) (g .size); tables = rw (q, g .in-order, length-replicate {A = ℕ} s 0, le-leb s s (omega arith)) }
+    let n = nodeCount (machineIn bs) in
+    record {
+      good = v ∙ ap (λ (k : ℕ). accept k) (g .size);
+      tables = rw (q, g .in-order, length-replicate {A = ℕ} s 0, le-leb s s (omega arith), eq-eqb n n refl);
+    }
 
 -- ---- the records
 

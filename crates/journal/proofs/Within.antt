@@ -1,15 +1,15 @@
 -- What a caller of a part needs: tables that are in order to start with and stay so, and bytes that lie where they can be used.
 -- Assumes nothing.
 use Prim.Native.Nat.{ℕ, _*_, _/_, _≤_, _<_}
-use mathlib.Core.Path.{_≡_, sym, ap, _∙_}
+use mathlib.Core.Path.{_≡_, refl, sym, ap, _∙_}
 use mathlib.Core.Bool.{Bool, true, false}
 use mathlib.Core.Logic.{⊎-elim}
 use mathlib.Core.List.{List}
 use native.Mathlib.Omega.{arith}
-use borrow.Author.Tests.{le-leb}
+use borrow.Author.Tests.{le-leb, eq-eqb}
 use lib.ListN.{length, drop, replicate, length-append, length-replicate}
 use Rattle.rules.specs.Basics.{sum}
-use Rattle.rules.specs.Machine.{Machine, pageTableOk}
+use Rattle.rules.specs.Machine.{Machine, nodeCount, pageTableOk}
 use Rattle.rules.specs.Records.{wordsPerJob, mostJobs, jobTableOk}
 use Rattle.rules.specs.Decisions.{accept}
 use Rattle.rules.specs.Calls.{Tables, tablesOf, requestTablesOk}
@@ -20,22 +20,23 @@ use Rattle.journal.proofs.MachineRecord.{good-opening}
 use Rattle.rules.proofs.InOrder.{same-lengths-ok}
 use Rattle.journal.proofs.Parts.{stands}
 
--- a good machine record, on 16,384 free pages and 64 fresh jobs
-pub opened : (bs : List ℕ) {k : ℕ} {pages jobs : List ℕ} → opening bs ≡ accept k → pages ≡ replicate journalPages 0
-    → jobs ≡ replicate (wordsPerJob * mostJobs) 0 → Opened bs (tablesOf pages jobs)
+-- a good machine record, on 16,384 free pages, 64 fresh jobs and the page counts
+pub opened : (bs : List ℕ) {k : ℕ} {pages jobs free : List ℕ} → opening bs ≡ accept k → pages ≡ replicate journalPages 0
+    → jobs ≡ replicate (wordsPerJob * mostJobs) 0 → free ≡ machineIn bs .pageCounts → Opened bs (tablesOf pages jobs free)
 unfolding requestTablesOk pageTableOk jobTableOk
-opened bs v p q =
+opened bs v p q f =
     let g = good-opening bs v in
     let s = sum (machineIn bs .pageCounts) in
+    let n = nodeCount (machineIn bs) in
     record {
       good = rw (g .size) at v;
-      tables = rw (p, q, g .in-order, length-replicate {A = ℕ} journalPages 0, le-leb s journalPages (g .few-pages));
+      tables = rw (p, q, f, g .in-order, length-replicate {A = ℕ} journalPages 0, le-leb s journalPages (g .few-pages), eq-eqb n n refl);
     }
 
 -- tables of the same lengths are in order too
 pub still-opened : {bs : List ℕ} {t u : Tables} → length (u .ledger) ≡ length (t .ledger) → length (u .records) ≡ length (t .records)
-    → Opened bs t → Opened bs u
-still-opened {bs} {t} {u} e f o = record { good = o .good; tables = same-lengths-ok (machineIn bs) t u e f (o .tables) }
+    → length (u .free) ≡ length (t .free) → Opened bs t → Opened bs u
+still-opened {bs} {t} {u} e f g o = record { good = o .good; tables = same-lengths-ok (machineIn bs) t u e f g (o .tables) }
 
 -- What a part did, as the code tells it.
 module _ (m : Machine) (t : Tables) (input : List ℕ) (ended : Bool) (out : List ℕ) {p : Passed} (said : p ≡ onPart m t input ended out) where

@@ -9,6 +9,7 @@ use Rattle.rules.specs.Machine.{Machine}
 use Rattle.rules.specs.Decisions.{decided}
 use Rattle.rules.specs.Calls.{Answer, Tables, numbers}
 use Rattle.rules.specs.Book.{Call, answers, final}
+use Rattle.rules.specs.FreeCounts.{answersUncounted}
 use Rattle.rules.specs.Journal.{Entry, answerBytes, faulty, readRecord}
 use Rattle.journal.specs.Parts.{isReady, Ran, ran}
 
@@ -35,9 +36,13 @@ answerLines [] given = []
 answerLines (e ∷ es) [] = []
 answerLines (e ∷ es) (a ∷ given) = answerBytes (e .kind) (numbers a) ++ answerLines es given
 
+-- the answers to some records, by a law that answers lists of calls
+abbrev pub linesBy : (List Call → List Answer) → List Entry → List ℕ
+linesBy law es = answerLines es (law (calls es))
+
 -- the book's answers to some records
 abbrev pub bookLines : Machine → Tables → List Entry → List ℕ
-bookLines m t es = answerLines es (answers m t (calls es))
+bookLines m t es = linesBy (answers m t) es
 
 -- "The end of input after a whole record ends the run without an answer"; "A bad mark, kind, unused byte or short record .. answers kind
 -- FF, refusal 13, .. and ends"
@@ -45,9 +50,17 @@ abbrev pub ending : List ℕ → List ℕ
 ending [] = []
 ending (b ∷ bs) = faulty 13
 
--- the book's answers to the calls of the records, and then what ends the run
+-- the answers to the calls of the records by a law, and then what ends the run
+abbrev pub runBy : (List Call → List Answer) → List ℕ → List ℕ
+runBy law bs = linesBy law (recordsIn bs) ++ ending (past bs (recordsIn bs))
+
+-- by the book
 abbrev pub bookRun : Machine → Tables → List ℕ → List ℕ
-bookRun m t bs = bookLines m t (recordsIn bs) ++ ending (past bs (recordsIn bs))
+bookRun m t bs = runBy (answers m t) bs
+
+-- by the law without counts, document 01 as it stood before M-100
+abbrev pub uncountedRun : Machine → Tables → List ℕ → List ℕ
+uncountedRun m t bs = runBy (answersUncounted m t) bs
 
 -- there is room for one answer more than there are good records, and one stands past them: it is damaged
 abbrev pub meetsDamage : Bool → ℕ → List ℕ → List Entry → Bool

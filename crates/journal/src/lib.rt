@@ -35,7 +35,8 @@ pub fn fresh_jobs() -> [u64; WORDS_PER_JOB * MOST_JOBS]
     [0; WORDS_PER_JOB * MOST_JOBS]
 }
 
-// The answers to the records after a good machine record, in an output that has room for them.
+// The answers to the records after a good machine record, in an output that has room for them. All pages are free at first:
+// the free counts are the page counts.
 fn run_all(input: &[u8], size: usize, output: &mut [u8]) -> usize
     requires { ⌜ (opening (now input) ≡ accept size) × (length (journal (now input)) ≤ length (now output)) ⌝ }
     ensures { λ r. ⌜ (r ≡ length (journal (now (input .entry)))) × (now (output .exit) ≡ journal (now (input .entry)) ++ drop r (now (output .entry))) ⌝ }
@@ -43,10 +44,13 @@ fn run_all(input: &[u8], size: usize, output: &mut [u8]) -> usize
     let total = opening::total_pages(input);
     let mut pages = free_pages();
     let mut jobs = fresh_jobs();
+    let nodes = reading::byte_at(input, 3);
+    let mut free = opening::page_counts(input);
     let part = run::run_part(
         input,
         &mut pages[..total],
         &mut jobs,
+        &mut free[..nodes],
         &input[size..],
         true,
         output,

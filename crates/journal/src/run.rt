@@ -42,17 +42,28 @@ fn run_record(
     distances: &[u8],
     pages: &mut [u8],
     jobs: &mut [u64],
+    free: &mut [u32],
     input: &[u8],
     output: &mut [u8],
 ) -> Part
-    requires { ⌜ (requestTablesOk (machineOf (now counts) (now cpus) (now distances)) (tablesOf (now pages) (now jobs)) ≡ true) × Starts (now counts) (now starts) × (answerSize ≤ length (now output)) ⌝ }
-    ensures { λ r. ⌜ passed r (tablesOf (now (pages .exit)) (now (jobs .exit))) (now (output .exit)) ≡ putInto (now (output .entry)) (oneRecord (machineOf (now (counts .entry)) (now (cpus .entry)) (now (distances .entry))) (tablesOf (now (pages .entry)) (now (jobs .entry))) (now (input .entry))) ⌝ }
+    requires { ⌜ (requestTablesOk (machineOf (now counts) (now cpus) (now distances)) (tablesOf (now pages) (now jobs) (now free)) ≡ true) × Starts (now counts) (now starts) × (answerSize ≤ length (now output)) ⌝ }
+    ensures { λ r. ⌜ passed r (tablesOf (now (pages .exit)) (now (jobs .exit)) (now (free .exit))) (now (output .exit)) ≡ putInto (now (output .entry)) (oneRecord (machineOf (now (counts .entry)) (now (cpus .entry)) (now (distances .entry))) (tablesOf (now (pages .entry)) (now (jobs .entry)) (now (free .entry))) (now (input .entry))) ⌝ }
 {
     let read = read_record(input);
     match read {
         Reading::Entry { kind, size, call } => {
             let places = places_in(input);
-            let answer = book::perform(counts, starts, cpus, distances, pages, jobs, call, places);
+            let answer = book::perform(
+                counts,
+                starts,
+                cpus,
+                distances,
+                pages,
+                jobs,
+                free,
+                call,
+                places,
+            );
             let bytes = line(kind, answer);
             Part {
                 read: size,
@@ -86,12 +97,13 @@ fn run_records(
     distances: &[u8],
     pages: &mut [u8],
     jobs: &mut [u64],
+    free: &mut [u32],
     input: &[u8],
     ended: bool,
     output: &mut [u8],
 ) -> Part
-    requires { ⌜ (requestTablesOk (machineOf (now counts) (now cpus) (now distances)) (tablesOf (now pages) (now jobs)) ≡ true) × Starts (now counts) (now starts) ⌝ }
-    ensures { λ r. ⌜ passed r (tablesOf (now (pages .exit)) (now (jobs .exit))) (now (output .exit)) ≡ onPart (machineOf (now (counts .entry)) (now (cpus .entry)) (now (distances .entry))) (tablesOf (now (pages .entry)) (now (jobs .entry))) (now (input .entry)) ended (now (output .entry)) ⌝ }
+    requires { ⌜ (requestTablesOk (machineOf (now counts) (now cpus) (now distances)) (tablesOf (now pages) (now jobs) (now free)) ≡ true) × Starts (now counts) (now starts) ⌝ }
+    ensures { λ r. ⌜ passed r (tablesOf (now (pages .exit)) (now (jobs .exit)) (now (free .exit))) (now (output .exit)) ≡ onPart (machineOf (now (counts .entry)) (now (cpus .entry)) (now (distances .entry))) (tablesOf (now (pages .entry)) (now (jobs .entry)) (now (free .entry))) (now (input .entry)) ended (now (output .entry)) ⌝ }
 {
     let mut at = 0;
     let mut written = 0;
@@ -103,6 +115,7 @@ fn run_records(
             distances,
             pages,
             jobs,
+            free,
             &input[at..],
             &mut output[written..],
         );
@@ -129,12 +142,13 @@ pub fn run_part(
     opening: &[u8],
     pages: &mut [u8],
     jobs: &mut [u64],
+    free: &mut [u32],
     input: &[u8],
     ended: bool,
     output: &mut [u8],
 ) -> Part
-    requires { ⌜ Opened (now opening) (tablesOf (now pages) (now jobs)) ⌝ }
-    ensures { λ r. ⌜ passed r (tablesOf (now (pages .exit)) (now (jobs .exit))) (now (output .exit)) ≡ onPart (machineIn (now (opening .entry))) (tablesOf (now (pages .entry)) (now (jobs .entry))) (now (input .entry)) ended (now (output .entry)) ⌝ }
+    requires { ⌜ Opened (now opening) (tablesOf (now pages) (now jobs) (now free)) ⌝ }
+    ensures { λ r. ⌜ passed r (tablesOf (now (pages .exit)) (now (jobs .exit)) (now (free .exit))) (now (output .exit)) ≡ onPart (machineIn (now (opening .entry))) (tablesOf (now (pages .entry)) (now (jobs .entry)) (now (free .entry))) (now (input .entry)) ended (now (output .entry)) ⌝ }
 {
     let n = byte_at(opening, 3);
     let all = page_counts(opening);
@@ -149,6 +163,7 @@ pub fn run_part(
         distances,
         pages,
         jobs,
+        free,
         input,
         ended,
         output,

@@ -78,12 +78,6 @@ impl Ranks {
 impl Mask {
     pub const EMPTY: Mask = Mask(0);
 
-    pub fn empty() -> Mask
-        ensures { λ r. ⌜ r .0 ≡ 0 ⌝ }
-    {
-        Mask::EMPTY
-    }
-
     // The mask of a record's word.
     pub fn of(word: u64) -> Mask
         ensures { λ r. ⌜ r .0 ≡ word ⌝ }
@@ -194,14 +188,6 @@ impl Mask {
         ensures { λ r. ⌜ r .0 ≡ self .0 - 2 ^ lowest mostNodes (self .0) ⌝ }
     {
         Mask(self.0 & (self.0 - 1))
-    }
-
-    // The mask without one of its nodes.
-    pub fn without(self, node: Node) -> Mask
-        requires { ⌜ bit (self .0) (node .0) ≡ 1 ⌝ }
-        ensures { λ r. ⌜ r .0 ≡ self .0 - 2 ^ node .0 ⌝ }
-    {
-        Mask(self.0 - (1u64 << node.0))
     }
 
     // The ranks of the mask's nodes in a set.

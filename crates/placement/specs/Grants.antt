@@ -1,46 +1,20 @@
--- Document 01, "The first node in the order with a free page grants its lowest free page": what a search takes, and the page table after it.
-use Prim.Native.Nat.{ℕ, _+_, _≤_, _<_}
+-- Document 01, "grants its lowest free page": what the code's enum for the page stands for, and what a grant may count on.
+use Prim.Native.Nat.{ℕ, _≤_, _<_}
 use mathlib.Core.Path.{_≡_}
-use mathlib.Core.Bool.{true}
 use mathlib.Core.List.{List}
 use mathlib.Core.Option.{Option, none, some}
-use lib.ListN.{length, set}
+use lib.ListN.{length, getD}
 use Rattle.rules.specs.Basics.{sum}
-use Rattle.rules.specs.Machine.{distancesOk}
 use Rattle.rules.specs.Masks.{mostNodes}
-use Rattle.rules.specs.Records.{Record, Turn, mostJobs}
-use Rattle.rules.specs.SearchOrder.{Try, pickPage, chosen}
+use Rattle.rules.specs.Records.{mostJobs}
 use Rattle.machine.specs.Tables.{Starts}
-use Rattle.records.specs.Jobs.{turnOf}
-use Rattle.placement.specs.Plans.{Plannable}
-use Rattle.placement.specs.declared.grant.Grant.{Grant}
-use Rattle.placement.specs.declared.grant.Grant.the-variants.{Taken as TakenBy, Nothing}
+use Rattle.placement.specs.declared.grant.Marked.{Marked}
+use Rattle.placement.specs.declared.grant.Marked.the-variants.{At, Full}
 
--- A grant: the node that serves, its page, and the turn that it leaves.
-pub record Taken : Type 0 where
-  pub node : ℕ
-  pub page : ℕ
-  pub turn : Turn
-
--- "grants its lowest free page": what job j takes by the try that is chosen
-abbrev pub taken : List ℕ → List ℕ → ℕ → Option Try → Option Taken
-taken counts ledger j none = none
-taken counts ledger j (some t) = some (record { node = t .node; page = pickPage counts ledger j (t .node); turn = t .turn })
-
--- "A grant to job j writes j + 1 at its page in the ledger"
-abbrev pub marked : List ℕ → Option Taken → ℕ → List ℕ
-marked ledger none j = ledger
-marked ledger (some t) j = set ledger (t .page) (j + 1)
-
--- what the code's enum says
-abbrev pub takenOf : Grant → Option Taken
-takenOf (TakenBy n p c) = some (record { node = n .0; page = p .0; turn = turnOf c })
-takenOf Nothing = none
-
--- What a search by some tries grants job j, and the page table after it.
-pub record Granted (counts ledger : List ℕ) (j : ℕ) (ts : List Try) (grant : Grant) (after : List ℕ) : Type 0 where
-  pub answer : takenOf grant ≡ taken counts ledger j (chosen counts ledger ts)
-  pub table : after ≡ marked ledger (takenOf grant) j
+-- the page that is marked, if there is one
+abbrev pub pageBy : Marked → Option ℕ
+pageBy (At p) = some (p .0)
+pageBy Full = none
 
 -- What a grant may count on: page counts in order, where each node's pages start, a page table that has them, and one of the jobs.
 pub record Ready (counts starts ledger : List ℕ) (j : ℕ) : Type 0 where
@@ -50,8 +24,8 @@ pub record Ready (counts starts ledger : List ℕ) (j : ℕ) : Type 0 where
   pub fits : sum counts ≤ length ledger
   pub job : j < mostJobs
 
--- What a request's search may count on.
-pub record Searchable (counts starts distances ledger : List ℕ) (limit : ℕ) (r : Record) (x j : ℕ) : Type 0 where
-  pub ready : Ready counts starts ledger j
-  pub table : distancesOk (length counts) distances ≡ true
-  pub plannable : Plannable (length counts) limit r x
+-- and a node that a search has chosen: one of the machine's, with a count above 0
+pub record Chose (counts free : List ℕ) (n : ℕ) : Type 0 where
+  pub one-each : length free ≡ length counts
+  pub node : n < length counts
+  pub above : 0 < getD free n 0

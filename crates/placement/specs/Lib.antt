@@ -1,3 +1,4 @@
 pub mod Plans
+pub mod Searches
 pub mod Grants
 pub mod Admissions

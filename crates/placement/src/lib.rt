@@ -1,20 +1,20 @@
-// Requests and releases of single pages: document 01, "Search order" and "Refusal numbers".
+// Requests and releases of single pages, and the fresh table: document 01, "Search order" and "Refusal numbers", and request M-100.
 
 ghost use mathlib.Core.Bool.{true, _&&_};
 ghost use mathlib.Core.Path.{_≡_};
 ghost use Prim.Native.Nat.{_≤_};
-ghost use lib.ListN.{length};
+ghost use lib.ListN.{length, replicate};
 ghost use Rattle.rules.specs.Basics.{sum};
 ghost use Rattle.rules.specs.Machine.{pageTableOk};
 ghost use Rattle.rules.specs.Masks.{mostNodes};
 ghost use Rattle.rules.specs.SearchOrder.{plan, order, chosen};
-ghost use Rattle.rules.specs.Calls.{tablesOf, outcome, applied, isJob, requestTablesOk, releaseTablesOk, recordTablesOk, admitted, serve, onRequest, onRelease};
+ghost use Rattle.rules.specs.Calls.{Tables, tablesOf, withPages, outcome, applied, isJob, freeOk, freshTablesOk, requestTablesOk, releaseTablesOk, recordTablesOk, admitted, serve, onRequest, onRelease, onFresh};
 ghost use Rattle.rules.specs.Answers.{answerOf};
 ghost use Rattle.machine.specs.Tables.{machineOf, Starts};
 ghost use Rattle.records.specs.Jobs.{recordOf};
 ghost use Rattle.placement.specs.Admissions.{admissionOf};
-ghost use Rattle.placement.specs.Grants.{Searchable};
-use grant::Grant;
+ghost use Rattle.placement.specs.Searches.{Searchable};
+ghost use Rattle.placement.specs.Grants.{Ready};
 use machine;
 use records::record::Record;
 use records::table;
@@ -23,18 +23,34 @@ use rules::MOST_NODES;
 use rules::Node;
 use rules::Page;
 use rules::Refusal;
+use search::Chosen;
 
 pub mod grant;
 pub mod plan;
+pub mod search;
 
 // ---- refusal 1
 
-// Are the page table and the job table in order, by their lengths, on page counts that are?
-pub fn lent_ok(counts: &[u32], starts: &[u32; MOST_NODES + 1], bytes: usize, words: usize) -> bool
+// Are the page table and the free counts in order, by their lengths, on page counts that are?
+fn pages_ok(counts: &[u32], starts: &[u32; MOST_NODES + 1], bytes: usize, entries: usize) -> bool
     requires { ⌜ (length (now counts) ≤ mostNodes) × (sum (now counts) ≤ 1048576) × Starts (now counts) (now starts) ⌝ }
-    ensures { λ r. ⌜ r ≡ (pageTableOk (now (counts .entry)) bytes && recordTablesOk (length (now (counts .entry))) words) ⌝ }
+    ensures { λ r. ⌜ r ≡ (pageTableOk (now (counts .entry)) bytes && freeOk (length (now (counts .entry))) entries) ⌝ }
 {
-    machine::page_table_ok(counts, starts, bytes) & table::tables_ok(counts.len(), words)
+    machine::page_table_ok(counts, starts, bytes) & (entries == counts.len())
+}
+
+// And the job table too?
+pub fn lent_ok(
+    counts: &[u32],
+    starts: &[u32; MOST_NODES + 1],
+    bytes: usize,
+    words: usize,
+    entries: usize,
+) -> bool
+    requires { ⌜ (length (now counts) ≤ mostNodes) × (sum (now counts) ≤ 1048576) × Starts (now counts) (now starts) ⌝ }
+    ensures { λ r. ⌜ r ≡ (pageTableOk (now (counts .entry)) bytes && freeOk (length (now (counts .entry))) entries && recordTablesOk (length (now (counts .entry))) words) ⌝ }
+{
+    pages_ok(counts, starts, bytes, entries) & table::tables_ok(counts.len(), words)
 }
 
 // ---- request
@@ -52,11 +68,12 @@ pub fn admit(
     distances: &[u8],
     pages: &[u8],
     jobs: &[u64],
+    free: &[u32],
     job: usize,
     cpu: usize,
 ) -> Admission
-    requires { ⌜ requestTablesOk (machineOf (now counts) (now cpus) (now distances)) (tablesOf (now pages) (now jobs)) ≡ true ⌝ }
-    ensures { λ r. ⌜ admissionOf r ≡ admitted (machineOf (now (counts .entry)) (now (cpus .entry)) (now (distances .entry))) (tablesOf (now (pages .entry)) (now (jobs .entry))) job cpu ⌝ }
+    requires { ⌜ requestTablesOk (machineOf (now counts) (now cpus) (now distances)) (tablesOf (now pages) (now jobs) (now free)) ≡ true ⌝ }
+    ensures { λ r. ⌜ admissionOf r ≡ admitted (machineOf (now (counts .entry)) (now (cpus .entry)) (now (distances .entry))) (tablesOf (now (pages .entry)) (now (jobs .entry)) (now (free .entry))) job cpu ⌝ }
 {
     let known = table::has_job(jobs.len(), job);
     if !known {
@@ -72,38 +89,29 @@ pub fn admit(
     Admission::Passed(record)
 }
 
-// "The first node in the order with a free page grants": a request that has passed its tests, from a CPU on node x.
+// The first node in the order that is counted above 0 grants: a request that has passed its tests, from a CPU on node x.
 fn serve(
     counts: &[u32],
     starts: &[u32; MOST_NODES + 1],
     distances: &[u8],
     pages: &mut [u8],
     jobs: &mut [u64],
+    free: &mut [u32],
     job: usize,
     loaded: Record,
     x: Node,
 ) -> Answer
-    requires { ⌜ Searchable (now counts) (now starts) (now distances) (now pages) (loaded .allowed .0) (recordOf loaded) (x .0) job × (isJob (now jobs) job ≡ true) ⌝ }
-    ensures { λ r. ⌜ outcome (answerOf r) (tablesOf (now (pages .exit)) (now (jobs .exit))) ≡ applied (tablesOf (now (pages .entry)) (now (jobs .entry))) (serve (now (counts .entry)) (tablesOf (now (pages .entry)) (now (jobs .entry))) job (chosen (now (counts .entry)) (now (pages .entry)) (order (length (now (counts .entry))) (now (distances .entry)) (loaded .allowed .0) (plan (loaded .allowed .0) (recordOf loaded) (x .0))))) ⌝ }
+    requires { ⌜ Ready (now counts) (now starts) (now pages) job × (isJob (now jobs) job ≡ true) × (length (now free) ≡ length (now counts)) × Searchable (now free) (now distances) (loaded .allowed .0) (recordOf loaded) (x .0) ⌝ }
+    ensures { λ r. ⌜ outcome (answerOf r) (tablesOf (now (pages .exit)) (now (jobs .exit)) (now (free .exit))) ≡ applied (tablesOf (now (pages .entry)) (now (jobs .entry)) (now (free .entry))) (serve (now (counts .entry)) (tablesOf (now (pages .entry)) (now (jobs .entry)) (now (free .entry))) job (chosen (now (free .entry)) (order (length (now (counts .entry))) (now (distances .entry)) (loaded .allowed .0) (plan (loaded .allowed .0) (recordOf loaded) (x .0))))) ⌝ }
 {
     let limit = loaded.allowed;
     let decoded = loaded.job();
-    let grant = grant::grant_page(
-        counts,
-        starts,
-        distances,
-        pages,
-        limit,
-        decoded,
-        x,
-        job as u8,
-    );
-    match grant {
-        Grant::Taken(node, page, cursor) => {
-            table::store_cursor(jobs, job, cursor);
-            Answer::Granted(node, page)
+    let chosen = search::search(free, distances, limit, decoded, x);
+    match chosen {
+        Chosen::At(node, cursor) => {
+            grant::grant_node(counts, starts, pages, jobs, free, job, node, cursor)
         }
-        Grant::Nothing => Answer::Refused(Refusal::NoRoom),
+        Chosen::Nothing => Answer::Refused(Refusal::NoRoom),
     }
 }
 
@@ -115,57 +123,70 @@ pub fn request_at(
     distances: &[u8],
     pages: &mut [u8],
     jobs: &mut [u64],
+    free: &mut [u32],
     job: usize,
     cpu: usize,
 ) -> Answer
-    requires { ⌜ (requestTablesOk (machineOf (now counts) (now cpus) (now distances)) (tablesOf (now pages) (now jobs)) ≡ true) × Starts (now counts) (now starts) ⌝ }
-    ensures { λ r. ⌜ outcome (answerOf r) (tablesOf (now (pages .exit)) (now (jobs .exit))) ≡ onRequest (machineOf (now (counts .entry)) (now (cpus .entry)) (now (distances .entry))) (tablesOf (now (pages .entry)) (now (jobs .entry))) job cpu ⌝ }
+    requires { ⌜ (requestTablesOk (machineOf (now counts) (now cpus) (now distances)) (tablesOf (now pages) (now jobs) (now free)) ≡ true) × Starts (now counts) (now starts) ⌝ }
+    ensures { λ r. ⌜ outcome (answerOf r) (tablesOf (now (pages .exit)) (now (jobs .exit)) (now (free .exit))) ≡ onRequest (machineOf (now (counts .entry)) (now (cpus .entry)) (now (distances .entry))) (tablesOf (now (pages .entry)) (now (jobs .entry)) (now (free .entry))) job cpu ⌝ }
 {
-    let admission = admit(counts, cpus, distances, pages, jobs, job, cpu);
+    let admission = admit(counts, cpus, distances, pages, jobs, free, job, cpu);
     match admission {
         Admission::Passed(record) => {
             let x = Node(cpus[cpu]);
-            serve(counts, starts, distances, pages, jobs, job, record, x)
+            serve(counts, starts, distances, pages, jobs, free, job, record, x)
         }
         Admission::Refused(why) => Answer::Refused(why),
     }
 }
 
-// A request: document 01's refusals 1, 2, 3, 4 and 8, or the page that the search order names.
+// A request: refusals 1, 2, 3, 4, 14 and 8, or the page that the search order names.
 pub fn request(
     counts: &[u32],
     cpus: &[u8],
     distances: &[u8],
     pages: &mut [u8],
     jobs: &mut [u64],
+    free: &mut [u32],
     job: usize,
     cpu: usize,
 ) -> Answer
-    ensures { λ r. ⌜ outcome (answerOf r) (tablesOf (now (pages .exit)) (now (jobs .exit))) ≡ onRequest (machineOf (now (counts .entry)) (now (cpus .entry)) (now (distances .entry))) (tablesOf (now (pages .entry)) (now (jobs .entry))) job cpu ⌝ }
+    ensures { λ r. ⌜ outcome (answerOf r) (tablesOf (now (pages .exit)) (now (jobs .exit)) (now (free .exit))) ≡ onRequest (machineOf (now (counts .entry)) (now (cpus .entry)) (now (distances .entry))) (tablesOf (now (pages .entry)) (now (jobs .entry)) (now (free .entry))) job cpu ⌝ }
 {
     if !machine::machine_ok(counts, cpus, distances) {
         return Answer::Refused(Refusal::BadTables);
     }
     let starts = machine::starts_of(counts);
-    if !lent_ok(counts, &starts, pages.len(), jobs.len()) {
+    if !lent_ok(counts, &starts, pages.len(), jobs.len(), free.len()) {
         return Answer::Refused(Refusal::BadTables);
     }
-    request_at(counts, &starts, cpus, distances, pages, jobs, job, cpu)
+    request_at(
+        counts,
+        &starts,
+        cpus,
+        distances,
+        pages,
+        jobs,
+        free,
+        job,
+        cpu,
+    )
 }
 
 // ---- release
 
-// A release on tables that are in order: one byte is written, after the last test.
+// A release on tables that are in order: one byte and one count are written, after the last test.
 pub fn release_at(
     counts: &[u32],
     starts: &[u32; MOST_NODES + 1],
     pages: &mut [u8],
     jobs: &[u64],
+    free: &mut [u32],
     job: usize,
     page: usize,
 ) -> Answer
-    requires { ⌜ (releaseTablesOk (now counts) (tablesOf (now pages) (now jobs)) ≡ true) × Starts (now counts) (now starts) ⌝ }
-    ensures { λ r. ⌜ outcome (answerOf r) (tablesOf (now (pages .exit)) (now (jobs .entry))) ≡ onRelease (now (counts .entry)) (tablesOf (now (pages .entry)) (now (jobs .entry))) job page ⌝ }
+    requires { ⌜ (releaseTablesOk (now counts) (tablesOf (now pages) (now jobs) (now free)) ≡ true) × Starts (now counts) (now starts) ⌝ }
+    ensures { λ r. ⌜ outcome (answerOf r) (tablesOf (now (pages .exit)) (now (jobs .entry)) (now (free .exit))) ≡ onRelease (now (counts .entry)) (tablesOf (now (pages .entry)) (now (jobs .entry)) (now (free .entry))) job page ⌝ }
 {
     if !table::has_job(jobs.len(), job) {
         return Answer::Refused(Refusal::NoSuchJob);
@@ -178,21 +199,89 @@ pub fn release_at(
     if holder as usize != job + 1 {
         return Answer::Refused(Refusal::NotHeld);
     }
+    let freed = Page(page as u32);
+    let node = machine::node_of_page(counts, starts, freed);
+    let n = node.0 as usize;
+    if counts[n] <= free[n] {
+        return Answer::Refused(Refusal::WrongCount);
+    }
     pages[page] = 0;
-    let free = Page(page as u32);
-    Answer::Released(machine::node_of_page(counts, starts, free), free)
+    free[n] = free[n] + 1;
+    Answer::Released(node, freed)
 }
 
 // Release: a page that the job holds becomes free.
-pub fn release(counts: &[u32], pages: &mut [u8], jobs: &[u64], job: usize, page: usize) -> Answer
-    ensures { λ r. ⌜ outcome (answerOf r) (tablesOf (now (pages .exit)) (now (jobs .entry))) ≡ onRelease (now (counts .entry)) (tablesOf (now (pages .entry)) (now (jobs .entry))) job page ⌝ }
+pub fn release(
+    counts: &[u32],
+    pages: &mut [u8],
+    jobs: &[u64],
+    free: &mut [u32],
+    job: usize,
+    page: usize,
+) -> Answer
+    ensures { λ r. ⌜ outcome (answerOf r) (tablesOf (now (pages .exit)) (now (jobs .entry)) (now (free .exit))) ≡ onRelease (now (counts .entry)) (tablesOf (now (pages .entry)) (now (jobs .entry)) (now (free .entry))) job page ⌝ }
 {
     if !machine::page_counts_ok(counts) {
         return Answer::Refused(Refusal::BadTables);
     }
     let starts = machine::starts_of(counts);
-    if !lent_ok(counts, &starts, pages.len(), jobs.len()) {
+    if !lent_ok(counts, &starts, pages.len(), jobs.len(), free.len()) {
         return Answer::Refused(Refusal::BadTables);
     }
-    release_at(counts, &starts, pages, jobs, job, page)
+    release_at(counts, &starts, pages, jobs, free, job, page)
+}
+
+// ---- the fresh table
+
+// Makes every byte 0.
+fn clear_bytes(bytes: &mut [u8])
+    ensures { λ _. ⌜ now (bytes .exit) ≡ replicate (length (now (bytes .entry))) 0 ⌝ }
+{
+    let mut i = 0;
+    while i < bytes.len() {
+        bytes[i] = 0;
+        i += 1;
+    }
+}
+
+// Copies the page counts.
+fn copy_counts(counts: &[u32], free: &mut [u32])
+    requires { ⌜ length (now free) ≡ length (now counts) ⌝ }
+    ensures { λ _. ⌜ now (free .exit) ≡ now (counts .entry) ⌝ }
+{
+    let mut i = 0;
+    while i < counts.len() {
+        free[i] = counts[i];
+        i += 1;
+    }
+}
+
+// The fresh table on tables that are in order.
+pub fn fresh_at(
+    counts: &[u32],
+    starts: &[u32; MOST_NODES + 1],
+    pages: &mut [u8],
+    free: &mut [u32],
+) -> Answer
+    requires { ⌜ (freshTablesOk (now counts) (length (now pages)) (length (now free)) ≡ true) × Starts (now counts) (now starts) ⌝ }
+    ensures { λ r. ⌜ ((t : Tables) → outcome (answerOf r) (withPages t (now (pages .exit)) (now (free .exit))) ≡ onFresh (now (counts .entry)) (withPages t (now (pages .entry)) (now (free .entry)))) ⌝ }
+{
+    let total = starts[counts.len()] as usize;
+    clear_bytes(&mut pages[..total]);
+    copy_counts(counts, free);
+    Answer::Done
+}
+
+// The fresh table: every page of the machine becomes free, and the counts are made. Refusal 1 alone.
+pub fn fresh(counts: &[u32], pages: &mut [u8], free: &mut [u32]) -> Answer
+    ensures { λ r. ⌜ ((t : Tables) → outcome (answerOf r) (withPages t (now (pages .exit)) (now (free .exit))) ≡ onFresh (now (counts .entry)) (withPages t (now (pages .entry)) (now (free .entry)))) ⌝ }
+{
+    if !machine::page_counts_ok(counts) {
+        return Answer::Refused(Refusal::BadTables);
+    }
+    let starts = machine::starts_of(counts);
+    if !pages_ok(counts, &starts, pages.len(), free.len()) {
+        return Answer::Refused(Refusal::BadTables);
+    }
+    fresh_at(counts, &starts, pages, free)
 }

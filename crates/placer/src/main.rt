@@ -9,6 +9,7 @@ ghost use Rattle.placer.specs.Parts.{AtMost};
 use journal::answer;
 use journal::opening;
 use journal::opening::LONGEST;
+use journal::reading;
 use part::Rest;
 use rules::Decision;
 use stdio::Got;
@@ -46,12 +47,14 @@ fn read_opening(bytes: &mut [u8]) -> Got
     Got::Bytes(done)
 }
 
-// The records after a good machine record, on free pages and fresh jobs, part by part until the run ends.
+// The records after a good machine record, on free pages, their counts and fresh jobs, part by part until the run ends.
 fn answer_records(bytes: &[u8])
     requires { ⌜ opening (now bytes) ≡ accept (machineSize (now bytes)) ⌝ }
 {
     let mut pages = journal::free_pages();
     let mut jobs = journal::fresh_jobs();
+    let nodes = reading::byte_at(bytes, 3);
+    let mut free = opening::page_counts(bytes);
     let mut input = io::large_buffer();
     let mut output = part::answer_buffer();
     let mut kept = 0;
@@ -61,6 +64,7 @@ fn answer_records(bytes: &[u8])
             bytes,
             &mut pages,
             &mut jobs,
+            &mut free[..nodes],
             &mut input,
             &mut output,
             kept,

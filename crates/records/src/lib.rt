@@ -1,12 +1,10 @@
-// The job table, and the calls that change it: install, rebind, clear. Each does what the rules say, for any page table beside it.
+// The job table, and the calls that change it: install, rebind, clear. Each does what the rules say, for any other tables beside it.
 
 ghost use mathlib.Core.Bool.{true};
-ghost use mathlib.Core.List.{List};
 ghost use mathlib.Core.Path.{_≡_};
-ghost use Prim.Native.Nat.{ℕ};
 ghost use lib.ListN.{length};
 ghost use Rattle.rules.specs.Records.{Policy as Asked, policy};
-ghost use Rattle.rules.specs.Calls.{tablesOf, outcome, recordTablesOk, onInstall, onRebind, onClear};
+ghost use Rattle.rules.specs.Calls.{Tables, withRecords, outcome, recordTablesOk, onInstall, onRebind, onClear};
 ghost use Rattle.rules.specs.Answers.{answerOf};
 ghost use Rattle.records.specs.Jobs.{Asks};
 use job::Job;
@@ -24,7 +22,7 @@ pub mod words;
 // Install on tables that are in order.
 pub fn install_at(nodes: usize, jobs: &mut [u64], job: usize, policy: Policy) -> Answer
     requires { ⌜ recordTablesOk nodes (length (now jobs)) ≡ true ⌝ }
-    ensures { λ r. ⌜ ((ledger : List ℕ) (p : Asked) → Asks policy p → outcome (answerOf r) (tablesOf ledger (now (jobs .exit))) ≡ onInstall nodes (tablesOf ledger (now (jobs .entry))) job p) ⌝ }
+    ensures { λ r. ⌜ ((t : Tables) (p : Asked) → Asks policy p → outcome (answerOf r) (withRecords t (now (jobs .exit))) ≡ onInstall nodes (withRecords t (now (jobs .entry))) job p) ⌝ }
 {
     if !table::has_job(jobs.len(), job) {
         return Answer::Refused(Refusal::NoSuchJob);
@@ -50,7 +48,7 @@ pub fn install_at(nodes: usize, jobs: &mut [u64], job: usize, policy: Policy) ->
 // Rebind on tables that are in order.
 pub fn rebind_at(nodes: usize, jobs: &mut [u64], job: usize, allowed: u64) -> Answer
     requires { ⌜ recordTablesOk nodes (length (now jobs)) ≡ true ⌝ }
-    ensures { λ r. ⌜ ((ledger : List ℕ) → outcome (answerOf r) (tablesOf ledger (now (jobs .exit))) ≡ onRebind nodes (tablesOf ledger (now (jobs .entry))) job allowed) ⌝ }
+    ensures { λ r. ⌜ ((t : Tables) → outcome (answerOf r) (withRecords t (now (jobs .exit))) ≡ onRebind nodes (withRecords t (now (jobs .entry))) job allowed) ⌝ }
 {
     if !table::has_job(jobs.len(), job) {
         return Answer::Refused(Refusal::NoSuchJob);
@@ -77,7 +75,7 @@ pub fn rebind_at(nodes: usize, jobs: &mut [u64], job: usize, allowed: u64) -> An
 // Clear on tables that are in order.
 pub fn clear_at(nodes: usize, jobs: &mut [u64], job: usize) -> Answer
     requires { ⌜ recordTablesOk nodes (length (now jobs)) ≡ true ⌝ }
-    ensures { λ r. ⌜ ((ledger : List ℕ) → outcome (answerOf r) (tablesOf ledger (now (jobs .exit))) ≡ onClear nodes (tablesOf ledger (now (jobs .entry))) job) ⌝ }
+    ensures { λ r. ⌜ ((t : Tables) → outcome (answerOf r) (withRecords t (now (jobs .exit))) ≡ onClear nodes (withRecords t (now (jobs .entry))) job) ⌝ }
 {
     if !table::has_job(jobs.len(), job) {
         return Answer::Refused(Refusal::NoSuchJob);
@@ -96,7 +94,7 @@ pub fn install(
     mask: u64,
     places: &[u8],
 ) -> Answer
-    ensures { λ r. ⌜ ((ledger : List ℕ) → outcome (answerOf r) (tablesOf ledger (now (jobs .exit))) ≡ onInstall nodes (tablesOf ledger (now (jobs .entry))) job (policy mode flag mask (now (places .entry)))) ⌝ }
+    ensures { λ r. ⌜ ((t : Tables) → outcome (answerOf r) (withRecords t (now (jobs .exit))) ≡ onInstall nodes (withRecords t (now (jobs .entry))) job (policy mode flag mask (now (places .entry)))) ⌝ }
 {
     if !table::tables_ok(nodes, jobs.len()) {
         return Answer::Refused(Refusal::BadTables);
@@ -114,7 +112,7 @@ pub fn install(
 
 // Rebind: a job's allowed nodes.
 pub fn rebind(nodes: usize, jobs: &mut [u64], job: usize, allowed: u64) -> Answer
-    ensures { λ r. ⌜ ((ledger : List ℕ) → outcome (answerOf r) (tablesOf ledger (now (jobs .exit))) ≡ onRebind nodes (tablesOf ledger (now (jobs .entry))) job allowed) ⌝ }
+    ensures { λ r. ⌜ ((t : Tables) → outcome (answerOf r) (withRecords t (now (jobs .exit))) ≡ onRebind nodes (withRecords t (now (jobs .entry))) job allowed) ⌝ }
 {
     if !table::tables_ok(nodes, jobs.len()) {
         return Answer::Refused(Refusal::BadTables);
@@ -124,7 +122,7 @@ pub fn rebind(nodes: usize, jobs: &mut [u64], job: usize, allowed: u64) -> Answe
 
 // Clear: a job's record becomes fresh; held pages stay held.
 pub fn clear(nodes: usize, jobs: &mut [u64], job: usize) -> Answer
-    ensures { λ r. ⌜ ((ledger : List ℕ) → outcome (answerOf r) (tablesOf ledger (now (jobs .exit))) ≡ onClear nodes (tablesOf ledger (now (jobs .entry))) job) ⌝ }
+    ensures { λ r. ⌜ ((t : Tables) → outcome (answerOf r) (withRecords t (now (jobs .exit))) ≡ onClear nodes (withRecords t (now (jobs .entry))) job) ⌝ }
 {
     if !table::tables_ok(nodes, jobs.len()) {
         return Answer::Refused(Refusal::BadTables);

@@ -120,7 +120,7 @@ replayed-belongs m t words out k n zeros ran = go (replayDecision m t words (len
 
     go : (d : Decision ℕ) → ranAs d .answer ≡ accept n → Belongs m t (callsIn words) (ranAs d .tables .ledger)
     go (refuse r) e = absurd (let z : _≡_ {A = ℕ} 0 1 = cc in omega arith)
-    go (accept i) e = subst (λ (l : List ℕ). Owned (tablesOf l (t .records))) (sym zeros) (page-owner m k (t .records) (callsIn words))
+    go (accept i) e = subst (λ (l : List ℕ). Owned (tablesOf l (t .records) (t .free))) (sym zeros) (page-owner m k (t .records) (t .free) (callsIn words))
 
 -- What `replay` promises of its answer, of the tables and of the output: they are the run's; demand 3; demand 2's sentence of the ledger.
 pub fair-and-owned : (m : Machine) (t : Tables) (words out : List ℕ) (a : Decision ℕ) (after : Tables) (output : List ℕ)

@@ -2,29 +2,30 @@
 -- Assumes nothing.
 use Prim.Native.Nat.{ℕ, zero, suc, _+_, _-_, _*_, _%_, _≤_, _<_}
 use mathlib.Core.Path.{_≡_, refl, sym, ap, _∙_}
-use mathlib.Core.Bool.{Bool, true, false, _&&_, and-false}
+use mathlib.Core.Bool.{Bool, true, false, _&&_, _||_, cond, and-false, or-false}
+use mathlib.Core.Logic.{⊎-elim}
 use mathlib.Core.List.{List, [], _∷_, _++_, append-assoc}
 use native.Mathlib.Nat.{zero-add, sub-zero, add-sub-cancel-left}
+use native.Mathlib.Decide.{decLe}
 use native.Mathlib.Omega.{arith}
-use borrow.Author.Tests.{eq-eqb, ne-eqb, leb-true, lt-leb}
-use lib.Dec.{eqb, leb}
-use lib.ListN.{length, take, drop, replicate, length-append, length-drop, length-replicate}
+use borrow.Author.Tests.{eqb-true, eq-eqb, ne-eqb, lt-leb, le-ltb, lt-ltb}
+use lib.Dec.{eqb, leb, ltb}
+use lib.ListN.{length, getD, take, drop, replicate, length-append, length-drop, length-replicate}
 use lib.Seq.{take-all, take-append-le, length-take-le, take-take, drop-cons}
 use Rattle.rules.specs.Basics.{all, each, from, between}
 use Rattle.rules.specs.Records.{bytesOf, placesPerJob, policy}
-use Rattle.rules.specs.Decisions.{Decision, accept, isAccepted, acceptedIn}
-use Rattle.rules.specs.Book.{Call, request, release, install, rebind, clear}
+use Rattle.rules.specs.Decisions.{Decision, refuse, accept, isAccepted, acceptedIn}
+use Rattle.rules.specs.Book.{Call, request, release, install, rebind, clear, freshTable}
 use Rattle.rules.specs.Journal.{kindOf}
 use Rattle.rules.proofs.Bytes.{bytes-length}
-use Rattle.rules.proofs.Lists.{both-true, all-true, member-from, each-from-suc, all-from-step, all-from-end}
-use Rattle.replay.specs.Encoding.{callWords, wordAt, filled, placesIn, callOf, callIn, wordsOf, callCount, callsTo, callsOk}
+use Rattle.rules.proofs.Lists.{both-true, either-true, between-true, all-true, member-from, each-from-suc, all-from-step, all-from-end}
+use Rattle.replay.specs.Encoding.{callWords, wordAt, filled, placesIn, callOf, ownCall, callIn, wordsOf, callCount, callsTo, callsOk}
 
 -- ---- one call
 
--- "1 request, 2 release, 3 rebind, 4 install, 5 clear": these kinds are known
-pub known-kind : (call : List ℕ) → isAccepted (callIn call) ≡ between 1 5 (wordAt call 0)
-unfolding callIn
-known-kind call = go (wordAt call 0)
+-- "1 request, 2 release, 3 rebind, 4 install, 5 clear": these kinds of the journal are known
+journal-kind : (call : List ℕ) (k : ℕ) → isAccepted (callOf (kindOf k) call) ≡ between 1 5 k
+journal-kind call k = go k
   where
     go : (k : ℕ) → isAccepted (callOf (kindOf k) call) ≡ between 1 5 k
     go zero = unfold callOf in refl
@@ -37,42 +38,70 @@ known-kind call = go (wordAt call 0)
         let n : ℕ = suc (suc (suc (suc (suc (suc k))))) in
         unfold callOf in rw (lt-leb n 5 (omega arith), and-false (leb 1 n))
 
+-- the first of the own kinds is known, and no other
+own-kind : (k : ℕ) → 16 ≤ k → isAccepted (ownCall (k - 16)) ≡ eqb k 16
+unfolding ownCall
+own-kind k l = go (k - 16) refl
+  where
+    go : (d : ℕ) → k - 16 ≡ d → isAccepted (getD (accept freshTable ∷ []) d (refuse 13)) ≡ eqb k 16
+    go zero e = sym (eq-eqb k 16 (omega arith))
+    go (suc d) e = sym (ne-eqb k 16 (omega arith))
+
+-- the kinds that are known: those of the journal, and 16
+pub known-kind : (call : List ℕ) → isAccepted (callIn call) ≡ (between 1 5 (wordAt call 0) || eqb (wordAt call 0) 16)
+unfolding callIn
+known-kind call = go (wordAt call 0) (decLe 16 (wordAt call 0))
+  where
+    go : (k : ℕ) → Dec (16 ≤ k) → isAccepted (cond (ltb k 16) (callOf (kindOf k) call) (ownCall (k - 16))) ≡ (between 1 5 k || eqb k 16)
+    go k (yes l) = rw (le-ltb k 16 l, lt-leb k 5 (omega arith), and-false (leb 1 k)) (own-kind k l)
+    go k (no l) = rw (lt-ltb k 16 (omega arith), ne-eqb k 16 (omega arith), or-false (between 1 5 k)) (journal-kind call k)
+
 -- the call of a kind
 module _ (call : List ℕ) (c : Call) (e : callIn call ≡ accept c) where
-  of-kind : (k : ℕ) → wordAt call 0 ≡ k → callOf (kindOf k) call ≡ accept c
+  of-kind : (k : ℕ) → k < 16 → wordAt call 0 ≡ k → callOf (kindOf k) call ≡ accept c
   unfolding callIn
-  of-kind k s = rw (sym s) e
+  of-kind k l s = rw (s, lt-ltb k 16 l) at e
 
   -- 1 is a request
   pub says-request : wordAt call 0 ≡ 1 → c ≡ request (wordAt call 1) (wordAt call 2)
   unfolding callOf
-  says-request s = let q = of-kind 1 s in cc
+  says-request s = let q = of-kind 1 (omega arith) s in cc
 
   -- 2 is a release
   pub says-release : wordAt call 0 ≡ 2 → c ≡ release (wordAt call 1) (wordAt call 2)
   unfolding callOf
-  says-release s = let q = of-kind 2 s in cc
+  says-release s = let q = of-kind 2 (omega arith) s in cc
 
   -- 3 is a rebind
   pub says-rebind : wordAt call 0 ≡ 3 → c ≡ rebind (wordAt call 1) (wordAt call 2)
   unfolding callOf
-  says-rebind s = let q = of-kind 3 s in cc
+  says-rebind s = let q = of-kind 3 (omega arith) s in cc
 
   -- 4 is an install
   pub says-install : wordAt call 0 ≡ 4 → c ≡ install (wordAt call 1) (policy (wordAt call 2) (wordAt call 3) (wordAt call 4) (placesIn call))
   unfolding callOf
-  says-install s = let q = of-kind 4 s in cc
+  says-install s = let q = of-kind 4 (omega arith) s in cc
 
-  -- and what is none of these is a clear
-  pub says-clear : (wordAt call 0 ≡ 1 → ⊥) → (wordAt call 0 ≡ 2 → ⊥) → (wordAt call 0 ≡ 3 → ⊥) → (wordAt call 0 ≡ 4 → ⊥) → c ≡ clear (wordAt call 1)
+  -- 5 is a clear
+  pub says-clear : wordAt call 0 ≡ 5 → c ≡ clear (wordAt call 1)
   unfolding callOf
-  says-clear n₁ n₂ n₃ n₄ =
-      let k = both-true {a = leb 1 (wordAt call 0)} (sym (known-kind call) ∙ ap isAccepted e) in
-      let five : wordAt call 0 ≡ 5 = between-four (leb-true 1 (wordAt call 0) (k .0)) (leb-true (wordAt call 0) 5 (k .1)) n₁ n₂ n₃ n₄ in
-      let q = of-kind 5 five in cc
+  says-clear s = let q = of-kind 5 (omega arith) s in cc
+
+  -- and what is none of these is a fresh table
+  pub says-fresh : (wordAt call 0 ≡ 1 → ⊥) → (wordAt call 0 ≡ 2 → ⊥) → (wordAt call 0 ≡ 3 → ⊥) → (wordAt call 0 ≡ 4 → ⊥) → (wordAt call 0 ≡ 5 → ⊥)
+      → c ≡ freshTable
+  unfolding callIn ownCall
+  says-fresh n₁ n₂ n₃ n₄ n₅ = let q = rw sixteen-is at e in cc
     where
-      between-four : {n : ℕ} → 1 ≤ n → n ≤ 5 → (n ≡ 1 → ⊥) → (n ≡ 2 → ⊥) → (n ≡ 3 → ⊥) → (n ≡ 4 → ⊥) → n ≡ 5
-      between-four l h a b c d = omega (arith)
+      known : (between 1 5 (wordAt call 0) || eqb (wordAt call 0) 16) ≡ true
+      known = sym (known-kind call) ∙ ap isAccepted e
+
+      sixteen-is : wordAt call 0 ≡ 16
+      sixteen-is =
+          ⊎-elim
+          (λ b. let k = between-true 1 5 (wordAt call 0) b in absurd (omega arith))
+          (λ q. eqb-true (wordAt call 0) 16 q)
+          (either-true known)
 
 -- a list of so many places has that length
 pub places-length : (call : List ℕ) → length (placesIn call) ≡ wordAt call 5

@@ -1,15 +1,15 @@
 -- A list of calls as 64-bit words, and an answer as one word: what `replay` reads and writes.
 -- Assumes nothing.
-use Prim.Native.Nat.{ℕ, _+_, _*_, _/_, _%_, _^_}
-use mathlib.Core.Bool.{Bool, _&&_}
-use mathlib.Core.List.{List, _++_}
+use Prim.Native.Nat.{ℕ, _+_, _-_, _*_, _/_, _%_, _^_}
+use mathlib.Core.Bool.{Bool, _&&_, cond}
+use mathlib.Core.List.{List, [], _∷_, _++_}
 use lib.ListN.{length, getD, take, drop, replicate}
-use lib.Dec.{eqb}
+use lib.Dec.{ltb, eqb}
 use Rattle.rules.specs.Basics.{all, each, from}
 use Rattle.rules.specs.Records.{bytesOf, placesPerJob, policy}
 use Rattle.rules.specs.Decisions.{Decision, refuse, accept, isAccepted, acceptedIn}
 use Rattle.rules.specs.Calls.{Answer, numbers}
-use Rattle.rules.specs.Book.{Call, request, release, install, rebind, clear}
+use Rattle.rules.specs.Book.{Call, request, release, install, rebind, clear, freshTable}
 use Rattle.rules.specs.Journal.{Kind, request′, release′, rebind′, install′, clear′, unknownKind, kindOf}
 
 -- a call is sixteen words
@@ -28,8 +28,9 @@ placesIn call = take (wordAt call 5) (each (bytesOf 8) (drop 8 call) ++ replicat
 abbrev pub filled : List ℕ → List ℕ
 filled places = take placesPerJob (places ++ replicate placesPerJob 0)
 
--- word 0 is the kind, "1 request, 2 release, 3 rebind, 4 install, 5 clear"; word 1 the job; word 2 the CPU, the page, the allowed mask or
--- the mode; word 3 the flag; word 4 the user mask. Words that a kind does not name are ignored. 13, no such kind
+-- word 0 is the kind, below 16 that of the journal, "1 request, 2 release, 3 rebind, 4 install, 5 clear"; word 1 the job; word 2 the CPU,
+-- the page, the allowed mask or the mode; word 3 the flag; word 4 the user mask. Words that a kind does not name are ignored. 13, no such
+-- kind
 unfoldable pub callOf : Kind → List ℕ → Decision Call
 callOf request′ call = accept (request (wordAt call 1) (wordAt call 2))
 callOf release′ call = accept (release (wordAt call 1) (wordAt call 2))
@@ -38,9 +39,16 @@ callOf install′ call = accept (install (wordAt call 1) (policy (wordAt call 2)
 callOf clear′ call = accept (clear (wordAt call 1))
 callOf unknownKind call = refuse 13
 
+-- the kinds from 16 on, which the journal has not: 16 is M-100's fresh table, of which no other word is read
+abbrev pub ownKinds : ℕ
+ownKinds = 16
+
+unfoldable pub ownCall : ℕ → Decision Call
+ownCall k = getD (accept freshTable ∷ []) k (refuse 13)
+
 -- the call that sixteen words say
 unfoldable pub callIn : List ℕ → Decision Call
-callIn call = callOf (kindOf (wordAt call 0)) call
+callIn call = cond (ltb (wordAt call 0) ownKinds) (callOf (kindOf (wordAt call 0)) call) (ownCall (wordAt call 0 - ownKinds))
 
 -- the words of call i, and how many calls there are
 abbrev pub wordsOf : List ℕ → ℕ → List ℕ
@@ -69,5 +77,5 @@ answerWord a = packed (numbers a)
 
 -- for a proof that computes: `unfolding openEncoding` opens every definition of this file
 unfoldable pub openEncoding : Unit {0}
-unfolding placesIn callOf callIn callsTo callsOk answerWord
+unfolding placesIn callOf ownCall callIn callsTo callsOk answerWord
 openEncoding = tt

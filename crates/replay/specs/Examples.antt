@@ -10,7 +10,7 @@ use Rattle.rules.specs.Masks.{openMasks}
 use Rattle.rules.specs.Records.{openRecords}
 use Rattle.rules.specs.SearchOrder.{openSearchOrder}
 use Rattle.rules.specs.Decisions.{refuse, accept}
-use Rattle.rules.specs.Calls.{openCalls, tablesOf}
+use Rattle.rules.specs.Calls.{openCalls, Tables, tablesOf}
 use Rattle.rules.specs.Book.{openBook, request, release, rebind}
 use Rattle.rules.specs.Examples.{machineA, start, installs}
 use Rattle.replay.specs.Encoding.{openEncoding, callsIn}
@@ -46,10 +46,22 @@ no r = r + 255 * 2 ^ 8 + 4294967295 * 2 ^ 32
 -- pages 4, 5, 2, 3, then refusal 8; page 5 released and granted again; the word past the answers stays
 story-run : onReplay machineA (start machineA) story (replicate 10 7)
     ≡ run (accept 9)
-    (tablesOf (0 ∷ 0 ∷ 1 ∷ 1 ∷ 1 ∷ 1 ∷ []) ((5 + 3 * 2 ^ 16 + 1 * 2 ^ 24) ∷ 0 ∷ 15 ∷ 0 ∷ (3 + 3 * 256 + 1 * 256 * 256) ∷ 0 ∷ []))
+    (tablesOf (0 ∷ 0 ∷ 1 ∷ 1 ∷ 1 ∷ 1 ∷ []) ((5 + 3 * 2 ^ 16 + 1 * 2 ^ 24) ∷ 0 ∷ 15 ∷ 0 ∷ (3 + 3 * 256 + 1 * 256 * 256) ∷ 0 ∷ [])
+    (2 ∷ 0 ∷ 0 ∷ 0 ∷ []))
     (no 0 ∷ no 0 ∷ page 3 4 ∷ page 3 5 ∷ page 1 2 ∷ page 1 3 ∷ no 8 ∷ page 3 5 ∷ page 3 5 ∷ 7 ∷ [])
 unfolding openBasics openMachine openMasks openRecords openSearchOrder openCalls openBook openEncoding openReplay
 story-run = refl
+
+-- held pages, one past the last, and counts that are wrong
+abbrev used : Tables
+used = tablesOf (1 ∷ 255 ∷ 0 ∷ 0 ∷ 9 ∷ 1 ∷ 7 ∷ []) (replicate 6 0) (0 ∷ 9 ∷ 9 ∷ 1 ∷ [])
+
+-- kind 16 is a fresh table, whatever its other words are; kind 17 is unknown
+fresh-run : (onReplay machineA used (call 16 99 1 2 3 4 5) (7 ∷ 7 ∷ [])
+    ≡ run (accept 1) (tablesOf (replicate 6 0 ++ (7 ∷ [])) (replicate 6 0) (machineA .pageCounts)) (no 0 ∷ 7 ∷ []))
+    × (onReplay machineA used (call 17 0 0 0 0 0 0) (7 ∷ 7 ∷ []) ≡ run (refuse 13) used (7 ∷ 7 ∷ []))
+unfolding openBasics openMachine openMasks openRecords openSearchOrder openCalls openBook openEncoding openReplay
+fresh-run = (refl, refl)
 
 -- refused, and nothing changes
 abbrev Untouched : List ℕ → ℕ → ℕ → Type 0
@@ -62,6 +74,6 @@ refused-whole = (refl, refl, refl)
 
 -- an install may say any number of places: 16 are taken, more are refused by the install itself, even more than there are words for
 any-length : onReplay machineA (start machineA) (call 3 0 15 0 0 0 0 ++ call 4 0 5 0 0 17 0 ++ call 4 0 5 0 0 65 0 ++ call 4 0 5 3 0 65 0) (replicate 4 7)
-    ≡ run (accept 4) (tablesOf (replicate 6 0) (0 ∷ 0 ∷ 15 ∷ 0 ∷ 0 ∷ 0 ∷ [])) (no 0 ∷ no 6 ∷ no 6 ∷ no 5 ∷ [])
+    ≡ run (accept 4) (tablesOf (replicate 6 0) (0 ∷ 0 ∷ 15 ∷ 0 ∷ 0 ∷ 0 ∷ []) (machineA .pageCounts)) (no 0 ∷ no 6 ∷ no 6 ∷ no 5 ∷ [])
 unfolding openBasics openMachine openMasks openRecords openSearchOrder openCalls openBook openEncoding openReplay
 any-length = refl

@@ -27,7 +27,7 @@ fn call_ok(call: &[u64]) -> bool
     ensures { λ r. ⌜ r ≡ isAccepted (callIn (now (call .entry))) ⌝ }
 {
     let kind = call[0];
-    (1 <= kind) & (kind <= 5)
+    ((1 <= kind) & (kind <= 5)) | (kind == 16)
 }
 
 // Is every call of the list of a known kind, and none cut short?
@@ -95,7 +95,8 @@ pub fn read_call(call: &[u64]) -> Entry
             job: job,
             allowed: call[2],
         },
-        _ => Call::Clear { job: job },
+        5 => Call::Clear { job: job },
+        _ => Call::Fresh,
     };
     Entry {
         call: said,

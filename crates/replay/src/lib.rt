@@ -26,18 +26,19 @@ pub fn replay(
     distances: &[u8],
     pages: &mut [u8],
     jobs: &mut [u64],
+    free: &mut [u32],
     calls: &[u64],
     answers: &mut [u64],
 ) -> Decision
-    ensures ran { λ r. ⌜ run (decisionOf r) (tablesOf (now (pages .exit)) (now (jobs .exit))) (now (answers .exit)) ≡ onReplay (machineOf (now (counts .entry)) (now (cpus .entry)) (now (distances .entry))) (tablesOf (now (pages .entry)) (now (jobs .entry))) (now (calls .entry)) (now (answers .entry)) ⌝ }
-    ensures fair { λ r. ⌜ Demand3 (machineOf (now (counts .entry)) (now (cpus .entry)) (now (distances .entry))) (tablesOf (now (pages .entry)) (now (jobs .entry))) (callsIn (now (calls .entry))) ⌝ }
-    ensures ledger { λ r. ⌜ ((k n : ℕ) → now (pages .entry) ≡ replicate k 0 → decisionOf r ≡ accept n → Belongs (machineOf (now (counts .entry)) (now (cpus .entry)) (now (distances .entry))) (tablesOf (now (pages .entry)) (now (jobs .entry))) (callsIn (now (calls .entry))) (now (pages .exit))) ⌝ }
+    ensures ran { λ r. ⌜ run (decisionOf r) (tablesOf (now (pages .exit)) (now (jobs .exit)) (now (free .exit))) (now (answers .exit)) ≡ onReplay (machineOf (now (counts .entry)) (now (cpus .entry)) (now (distances .entry))) (tablesOf (now (pages .entry)) (now (jobs .entry)) (now (free .entry))) (now (calls .entry)) (now (answers .entry)) ⌝ }
+    ensures fair { λ r. ⌜ Demand3 (machineOf (now (counts .entry)) (now (cpus .entry)) (now (distances .entry))) (tablesOf (now (pages .entry)) (now (jobs .entry)) (now (free .entry))) (callsIn (now (calls .entry))) ⌝ }
+    ensures ledger { λ r. ⌜ ((k n : ℕ) → now (pages .entry) ≡ replicate k 0 → decisionOf r ≡ accept n → Belongs (machineOf (now (counts .entry)) (now (cpus .entry)) (now (distances .entry))) (tablesOf (now (pages .entry)) (now (jobs .entry)) (now (free .entry))) (callsIn (now (calls .entry))) (now (pages .exit))) ⌝ }
 {
     if !machine::machine_ok(counts, cpus, distances) {
         return Decision::Refuse(Refusal::BadTables);
     }
     let starts = machine::starts_of(counts);
-    if !placement::lent_ok(counts, &starts, pages.len(), jobs.len()) {
+    if !placement::lent_ok(counts, &starts, pages.len(), jobs.len(), free.len()) {
         return Decision::Refuse(Refusal::BadTables);
     }
     if !encoding::calls_ok(calls) {
@@ -54,7 +55,17 @@ pub fn replay(
         let read = encoding::read_call(&calls[start..end]);
         let call = read.call;
         let places = read.places;
-        let answer = book::perform(counts, &starts, cpus, distances, pages, jobs, call, places);
+        let answer = book::perform(
+            counts,
+            &starts,
+            cpus,
+            distances,
+            pages,
+            jobs,
+            free,
+            call,
+            places,
+        );
         answers[i] = encoding::answer_word(answer);
         i += 1;
     }

@@ -1,25 +1,25 @@
--- Which requests are let through to the search, and the room rule: when one of them is refused 8. (Files are checked by name, and what
--- they use first: so a request that refuses in spite of room is refused here.)
+-- Which requests are let through to the search, and what that comes to: when one of them is refused 8, when 14. (Files are checked by name,
+-- and what they use first: so a request that refuses in spite of room is refused here.)
 -- Assumes nothing.
-use Prim.Native.Nat.{ℕ}
+use Prim.Native.Nat.{ℕ, _<_}
 use mathlib.Core.Path.{_≡_, refl, sym, ap, _∙_}
 use mathlib.Core.Logic.{_↔_}
-use mathlib.Core.Bool.{Bool, true, false, not}
+use mathlib.Core.Bool.{Bool, true, false, not, true≢false}
 use mathlib.Core.Option.{Option, none, some}
 use mathlib.Core.List.{List}
 use native.Mathlib.Omega.{arith}
-use borrow.Author.Tests.{eqb-true, eqb-false}
+use borrow.Author.Tests.{eqb-true, eqb-false, ltb-true, lt-ltb}
 use lib.ListN.{getD}
 use lib.Dec.{eqb}
 use Rattle.rules.specs.Basics.{any}
 use Rattle.rules.specs.Machine.{Machine, nodeCount, pagesOf}
 use Rattle.rules.specs.Records.{Record, recordAt, wellFormed}
-use Rattle.rules.specs.SearchOrder.{Try, freePages, hasRoom, pickPage, chosen}
-use Rattle.rules.specs.Decisions.{Decision, refuse, accept, then}
+use Rattle.rules.specs.SearchOrder.{Try, freePages, hasRoom, pickPage, counted, chosen}
+use Rattle.rules.specs.Decisions.{Decision, refuse, accept, unless, then}
 use Rattle.rules.specs.Calls.{granted, refused, Tables, Change, granting, applied, isJob, isCpu, requestTablesOk, admitted, orderOf, serve}
 use Rattle.rules.specs.Calls.{requestDecision}
 use Rattle.rules.specs.Book.{request, decision, step}
-use Rattle.rules.proofs.Lists.{_∈_, fails, any-false, none-any, empty-keep, first-none}
+use Rattle.rules.proofs.Lists.{_∈_, fails, any-false, none-any, empty-keep, FirstOf, first-keep, keep-first, first-none}
 use Rattle.rules.proofs.Pages.{PageOf, member-page, page-member}
 use Rattle.rules.proofs.Decisions.{passed, passed-to, went-on}
 
@@ -78,94 +78,125 @@ module _ (m : Machine) (t : Tables) (j k : ℕ) where
   unfolding admitted
   passes-admitted p = rw (p .tablesOk, p .job, p .cpu, p .formed)
 
-  -- none of these tests refuses with 8
-  not-8 : (d : Decision Record) → admitted m t j k ≡ d → d ≡ refuse 8 → ⊥
+  -- each of these tests refuses with one of 1 to 4
+  not-later : (q : ℕ) → 4 < q → (d : Decision Record) → admitted m t j k ≡ d → d ≡ refuse q → ⊥
   unfolding admitted formed
-  not-8 d e z =
-      let a = passed-to (requestTablesOk m t) 1 _ (e ∙ z) (λ q. omega arith) in
-      let b = passed-to (isJob (t .records) j) 2 _ (a .1) (λ q. omega arith) in
-      let c = passed-to (isCpu (m .cpuNodes) k) 3 _ (b .1) (λ q. omega arith) in
-      let d = passed-to formed 4 _ (c .1) (λ q. omega arith) in
+  not-later q l d e z =
+      let a = passed-to (requestTablesOk m t) 1 _ (e ∙ z) (λ y. omega arith) in
+      let b = passed-to (isJob (t .records) j) 2 _ (a .1) (λ y. omega arith) in
+      let c = passed-to (isCpu (m .cpuNodes) k) 3 _ (b .1) (λ y. omega arith) in
+      let d = passed-to formed 4 _ (c .1) (λ y. omega arith) in
       let n : _≡_ {A = ℕ} 0 1 = cc in
       omega arith
 
-  served-is : (o : Option Try) {x : Change} → serve (m .pageCounts) t j o ≡ accept x → (s : Try) × (o ≡ some s) × (x ≡ granting (m .pageCounts) t j s)
+  served-is : (o : Option Try) {x : Change} → serve (m .pageCounts) t j o ≡ accept x
+      → (s : Try) × (o ≡ some s) × (hasRoom (m .pageCounts) (t .ledger) (s .node) ≡ true) × (x ≡ granting (m .pageCounts) t j s)
   unfolding serve
   served-is none e = absurd (let z : _≡_ {A = ℕ} 0 1 = cc in omega arith)
-  served-is (some s) e = (s, refl, cc)
+  served-is (some s) {x} e =
+      let a = passed (hasRoom (m .pageCounts) (t .ledger) (s .node)) 14 _ e in
+      let same : x ≡ granting (m .pageCounts) t j s = cc in
+      (s, refl, a .0, same)
 
-  -- a request that is accepted passes 1 to 4, and is served by the first try of its order with room
+  -- a request that is accepted passes 1 to 4, and is served by the first try of its order that is counted above 0, which has room
   pub accepted : {x : Change} → requestDecision m t j k ≡ accept x
-      → Passes m t j k × (s : Try) × (chosen (m .pageCounts) (t .ledger) (orderOf m t j k) ≡ some s) × (x ≡ granting (m .pageCounts) t j s)
+      → Passes m t j k × (s : Try) × (chosen (t .free) (orderOf m t j k) ≡ some s) × (hasRoom (m .pageCounts) (t .ledger) (s .node) ≡ true)
+      × (x ≡ granting (m .pageCounts) t j s)
   unfolding requestDecision
   accepted e =
       let g = went-on (admitted m t j k) _ e in
-      let s = served-is (chosen (m .pageCounts) (t .ledger) (orderOf m t j k)) (g .2) in
-      (admitted-passes (g .1), s .0, s .1, s .2)
+      let s = served-is (chosen (t .free) (orderOf m t j k)) (g .2) in
+      (admitted-passes (g .1), s .0, s .1, s .2, s .3)
 
   -- a request that passes 1 to 4 goes by the search alone
-  passes-search : Passes m t j k → requestDecision m t j k ≡ serve (m .pageCounts) t j (chosen (m .pageCounts) (t .ledger) (orderOf m t j k))
+  passes-search : Passes m t j k → requestDecision m t j k ≡ serve (m .pageCounts) t j (chosen (t .free) (orderOf m t j k))
   unfolding requestDecision
   passes-search p = rw (passes-admitted p)
 
--- ---- the room rule
+-- ---- what the search comes to
 
-module _ (m : Machine) (t : Tables) (j k : ℕ) (p : Passes m t j k) where
-  -- the test of the search, at a try
-  abbrev hasPage : Try → Bool
-  hasPage s = hasRoom (m .pageCounts) (t .ledger) (s .node)
+module _ (m : Machine) (t : Tables) (j k : ℕ) where
+  -- M-100: no node in the order is counted above 0, and it is 8; or the first that is has no free page, and it is 14; or has one, and grants
+  pub data Searched : Type 0 where
+    nowhere : chosen (t .free) (orderOf m t j k) ≡ none → step m t (request j k) .answer ≡ refused 8 → Searched
+    wrongly : (s : Try) → chosen (t .free) (orderOf m t j k) ≡ some s → hasRoom (m .pageCounts) (t .ledger) (s .node) ≡ false
+        → step m t (request j k) .answer ≡ refused 14 → Searched
+    served : (s : Try) → chosen (t .free) (orderOf m t j k) ≡ some s → hasRoom (m .pageCounts) (t .ledger) (s .node) ≡ true
+        → step m t (request j k) .answer ≡ granted (s .node) (pickPage (m .pageCounts) (t .ledger) j (s .node)) → Searched
 
-  served-or-8 : (o : Option Try) → chosen (m .pageCounts) (t .ledger) (orderOf m t j k) ≡ o → (step m t (request j k) .answer ≡ refused 8) ↔ (o ≡ none)
+  -- each request that passes 1 to 4 is one of these
+  pub searched : Passes m t j k → Searched
   unfolding step decision applied serve
-  served-or-8 none e = (λ h. refl, λ h. rw (passes-search m t j k p, e))
-  served-or-8 (some s) e = (
-    λ h. absurd (let q = rw (passes-search m t j k p, e) at h in let z : _≡_ {A = ℕ} 0 1 = cc in omega arith),
-    λ h. absurd (let z : _≡_ {A = ℕ} 0 1 = cc in omega arith),
-  )
-
-  -- the room rule, by the test of the search: a request that passes 1 to 4 is refused 8 exactly when no try of its order has room
-  pub room-test : (step m t (request j k) .answer ≡ refused 8) ↔ (any hasPage (orderOf m t j k) ≡ false)
-  unfolding chosen
-  room-test =
-      let a = served-or-8 (chosen (m .pageCounts) (t .ledger) (orderOf m t j k)) refl in
-      let b = first-none hasPage (orderOf m t j k) in
-      (λ e. b .0 (a .0 e), λ e. a .1 (b .1 e))
-
-  -- "8 no node in the order has a free page": a request that passes 1 to 4 is refused 8 exactly then
-  pub room : (step m t (request j k) .answer ≡ refused 8)
-      ↔ ((s : Try) → s ∈ orderOf m t j k → (q : ℕ) → FreePage (m .pageCounts) (t .ledger) (s .node) q → ⊥)
-  room = (
-    λ e s h. no-room (m .pageCounts) (t .ledger) (s .node) .0 (any-false hasPage (room-test .0 e) h),
-    λ f. room-test .1 (none-any _ (orderOf m t j k) (λ s h. no-room (m .pageCounts) (t .ledger) (s .node) .1 (f s h))),
-  )
-
-  -- a request that passes 1 to 4 is granted where a node of its order has a free page
-  pub granted-with-room : (s : Try) → s ∈ orderOf m t j k → (q : ℕ) → FreePage (m .pageCounts) (t .ledger) (s .node) q
-      → (n : ℕ) × (g : ℕ) × (step m t (request j k) .answer ≡ granted n g)
-  granted-with-room s h q f = go (chosen (m .pageCounts) (t .ledger) (orderOf m t j k)) refl
+  searched p = go (chosen (t .free) (orderOf m t j k)) refl
     where
-      go : (o : Option Try) → chosen (m .pageCounts) (t .ledger) (orderOf m t j k) ≡ o
-          → (n : ℕ) × (g : ℕ) × (step m t (request j k) .answer ≡ granted n g)
-      go none e = absurd (room .0 (served-or-8 none e .1 refl) s h q f)
-      go (some x) e = (x .node, pickPage (m .pageCounts) (t .ledger) j (x .node), given e)
-        where
-          given : chosen (m .pageCounts) (t .ledger) (orderOf m t j k) ≡ some x
-              → step m t (request j k) .answer ≡ granted (x .node) (pickPage (m .pageCounts) (t .ledger) j (x .node))
-          given e = unfold step in unfold decision in unfold applied in unfold serve in rw (passes-search m t j k p, e)
+      in-node : (s : Try) → chosen (t .free) (orderOf m t j k) ≡ some s → (b : Bool) → hasRoom (m .pageCounts) (t .ledger) (s .node) ≡ b → Searched
+      in-node s e true r = served s e r (rw (passes-search m t j k p, e, r))
+      in-node s e false r = wrongly s e r (rw (passes-search m t j k p, e, r))
 
--- "Order: request 1, 2, 3, 4, 8": a request that is refused 8 passes 1 to 4
-refused-8-passes : (m : Machine) (t : Tables) (j k : ℕ) → step m t (request j k) .answer ≡ refused 8 → Passes m t j k
-unfolding step decision applied requestDecision
-refused-8-passes m t j k e = go (admitted m t j k) refl e
-  where
-    go : (d : Decision Record) → admitted m t j k ≡ d
-        → applied t (then d (λ r. serve (m .pageCounts) t j (chosen (m .pageCounts) (t .ledger) (orderOf m t j k)))) .answer ≡ refused 8 → Passes m t j k
-    go (refuse q) f e = absurd (not-8 m t j k (refuse q) f (cc))
-    go (accept r) f e = admitted-passes m t j k f
+      go : (o : Option Try) → chosen (t .free) (orderOf m t j k) ≡ o → Searched
+      go none e = nowhere e (rw (passes-search m t j k p, e))
+      go (some s) e = in-node s e (hasRoom (m .pageCounts) (t .ledger) (s .node)) refl
 
--- "8 no node in the order has a free page", "Given exactly when", "Order: request 1, 2, 3, 4, 8": a request is refused 8 exactly when it
--- passes 1 to 4 and no node in its order has a free page
-pub refused-8 : (m : Machine) (t : Tables) (j k : ℕ) → (step m t (request j k) .answer ≡ refused 8)
-    ↔ (Passes m t j k × ((s : Try) → s ∈ orderOf m t j k → (q : ℕ) → FreePage (m .pageCounts) (t .ledger) (s .node) q → ⊥))
-refused-8 m t j k =
-    (λ e. let p = refused-8-passes m t j k e in (p, room m t j k p .0 e), λ h. room m t j k (h .0) .1 (h .1))
+  -- "Order: request 1, 2, 3, 4", 14, "8": a request that is refused with a later number than 4 passes 1 to 4
+  later-passes : (q : ℕ) → 4 < q → step m t (request j k) .answer ≡ refused q → Passes m t j k
+  unfolding step decision applied requestDecision
+  later-passes q l e = go (admitted m t j k) refl e
+    where
+      go : (d : Decision Record) → admitted m t j k ≡ d
+          → applied t (then d (λ r. serve (m .pageCounts) t j (chosen (t .free) (orderOf m t j k)))) .answer ≡ refused q → Passes m t j k
+      go (refuse y) f e = absurd (not-later m t j k q l (refuse y) f (cc))
+      go (accept r) f e = admitted-passes m t j k f
+
+  -- M-100: "8, which then means every node in the order counted 0": a request is refused 8 exactly when it passes 1 to 4 and that is so
+  pub refused-8 : (step m t (request j k) .answer ≡ refused 8) ↔ (Passes m t j k × ((s : Try) → s ∈ orderOf m t j k → counted (t .free) (s .node) ≡ false))
+  unfolding chosen
+  refused-8 = (λ e. let p = later-passes 8 (omega arith) e in (p, none-counted e (searched p)), λ h. back h (searched (h .0)))
+    where
+      isCounted : Try → Bool
+      isCounted s = counted (t .free) (s .node)
+
+      none-counted : step m t (request j k) .answer ≡ refused 8 → Searched → (s : Try) → s ∈ orderOf m t j k → isCounted s ≡ false
+      none-counted e (nowhere c a) s h = any-false isCounted (first-none isCounted (orderOf m t j k) .0 c) h
+      none-counted e (wrongly x c r a) s h = absurd (let z : _≡_ {A = ℕ} 8 14 = cc in omega arith)
+      none-counted e (served x c r a) s h = absurd (let z : _≡_ {A = ℕ} 0 1 = cc in omega arith)
+
+      none-chosen : ((s : Try) → s ∈ orderOf m t j k → isCounted s ≡ false) → {x : Try} → chosen (t .free) (orderOf m t j k) ≡ some x → ⊥
+      none-chosen f e =
+          let n = first-none isCounted (orderOf m t j k) .1 (none-any isCounted (orderOf m t j k) f) in
+          let z : _≡_ {A = ℕ} 0 1 = cc in
+          omega arith
+
+      back : Passes m t j k × ((s : Try) → s ∈ orderOf m t j k → isCounted s ≡ false) → Searched → step m t (request j k) .answer ≡ refused 8
+      back h (nowhere c a) = a
+      back h (wrongly x c r a) = absurd (none-chosen (h .1) c)
+      back h (served x c r a) = absurd (none-chosen (h .1) c)
+
+  -- M-100: "meets a node counted above 0 with no free page": the first node in the order that is counted above 0 has none
+  pub record MeetsWrongCount : Type 0 where
+    pub met : Try
+    pub first-counted : FirstOf (λ s. counted (t .free) (s .node)) (orderOf m t j k) met
+    pub no-page : (q : ℕ) → FreePage (m .pageCounts) (t .ledger) (met .node) q → ⊥
+
+  -- a request is refused 14 exactly when it passes 1 to 4 and meets such a node
+  pub refused-14 : (step m t (request j k) .answer ≡ refused 14) ↔ (Passes m t j k × MeetsWrongCount)
+  unfolding chosen
+  refused-14 = (λ e. let p = later-passes 14 (omega arith) e in (p, meets e (searched p)), λ h. back (h .1) (searched (h .0)))
+    where
+      meets : step m t (request j k) .answer ≡ refused 14 → Searched → MeetsWrongCount
+      meets e (nowhere c a) = absurd (let z : _≡_ {A = ℕ} 14 8 = cc in omega arith)
+      meets e (wrongly s c r a) = record {
+        met = s;
+        first-counted = first-keep (λ s. counted (t .free) (s .node)) (orderOf m t j k) c;
+        no-page = no-room (m .pageCounts) (t .ledger) (s .node) .0 r;
+      }
+      meets e (served s c r a) = absurd (let z : _≡_ {A = ℕ} 0 1 = cc in omega arith)
+
+      is-met : (w : MeetsWrongCount) {s : Try} → chosen (t .free) (orderOf m t j k) ≡ some s → w .met ≡ s
+      is-met w {s} e = let q = keep-first (w .first-counted) in cc
+
+      back : MeetsWrongCount → Searched → step m t (request j k) .answer ≡ refused 14
+      back w (nowhere c a) = absurd (let q = keep-first (w .first-counted) in let z : _≡_ {A = ℕ} 0 1 = cc in omega arith)
+      back w (wrongly s c r a) = a
+      back w (served s c r a) =
+          let none-there = no-room (m .pageCounts) (t .ledger) (s .node) .1 (λ q f. w .no-page q (rw (is-met w c) f)) in
+          absurd (true≢false (sym r ∙ none-there))

@@ -1,4 +1,4 @@
--- Each example of the two tables is right. (Files are checked by name, and what they use first: so a rule that breaks an example is refused
+-- Each example of the three tables is right. (Files are checked by name, and what they use first: so a rule that breaks an example is refused
 -- at the table, which computes, before any proof.)
 -- Assumes nothing.
 use mathlib.Core.Path.{_≡_, refl}
@@ -7,6 +7,7 @@ use mathlib.Core.List.{_++_}
 use lib.Dec.{T}
 use Rattle.rules.specs.Examples as marked
 use Rattle.rules.specs.MoreExamples as more
+use Rattle.rules.specs.CountExamples as counts
 use Rattle.rules.proofs.Lists.{_∈_, all-true}
 
 -- a computed test that holds
@@ -21,3 +22,7 @@ marked-right h = all-true marked.right (is-true _ marked.all-right) h
 -- the examples not marked T, "Easy ways to get it wrong", and one for each rule that those marked T leave open
 pub more-right : {e : more.Example} → e ∈ (more.texts ++ more.runs ++ more.refusals ++ more.records ++ more.journals) → more.right e ≡ true
 more-right h = all-true more.right (is-true _ more.all-right) h
+
+-- M-100 by examples
+pub counts-right : {e : counts.Example} → e ∈ counts.table → counts.right e ≡ true
+counts-right h = all-true counts.right (is-true _ counts.all-right) h

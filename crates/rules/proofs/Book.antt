@@ -16,7 +16,7 @@ use Rattle.rules.specs.Machine.{Machine}
 use Rattle.rules.specs.Calls.{Answer, Tables, tablesOf, Write, afterWrites}
 use Rattle.rules.specs.Book.{Call, decision, step, answers, final}
 use Rattle.rules.specs.Ledger.{writesOf, writes, lastElse, lastWrite, holder, givenTo}
-use Rattle.rules.proofs.Calls.{AtPage, ledger-by-writes, ledger-length, records-length, writes-at-pages, past-pages-kept}
+use Rattle.rules.proofs.Calls.{AtPage, ledger-by-writes, ledger-length, records-length, free-length, writes-at-pages, past-pages-kept}
 
 -- ---- a list of calls in two parts
 
@@ -44,6 +44,12 @@ unfolding final
 final-records-length m t [] = refl
 final-records-length m t (c ∷ cs) = final-records-length m (step m t c .tables) cs ∙ records-length m t c
 
+-- and the table of free counts
+pub final-free-length : (m : Machine) (t : Tables) (cs : List Call) → length (final m t cs .free) ≡ length (t .free)
+unfolding final
+final-free-length m t [] = refl
+final-free-length m t (c ∷ cs) = final-free-length m (step m t c .tables) cs ∙ free-length m t c
+
 -- "Bytes past the last page are never changed": by any list of calls, on any tables
 pub past-pages-kept-all : (m : Machine) (t : Tables) (cs : List Call)
     → drop (sum (m .pageCounts)) (final m t cs .ledger) ≡ drop (sum (m .pageCounts)) (t .ledger)
@@ -56,7 +62,7 @@ past-pages-kept-all m t (c ∷ cs) = past-pages-kept-all m (step m t c .tables) 
 writes-append : (ledger : List ℕ) (vs ws : List Write) → afterWrites ledger (vs ++ ws) ≡ afterWrites (afterWrites ledger vs) ws
 unfolding afterWrites
 writes-append ledger [] ws = refl
-writes-append ledger (v ∷ vs) ws = writes-append (set ledger (v .page) (v .byte)) vs ws
+writes-append ledger (v ∷ vs) ws = writes-append (set ledger (v .at) (v .value)) vs ws
 
 -- "A grant to job j writes j + 1 at its page in the ledger, a release 0. Nothing else changes the ledger": the ledger after a list of
 -- calls is the ledger with what they write
@@ -70,7 +76,7 @@ final-by-writes m t (c ∷ cs) =
 
 -- the writes that stand in a table of this length
 abbrev InTable : ℕ → List Write → Type 0
-InTable k ws = Each (λ w. w .page < k) ws
+InTable k ws = Each (λ w. w .at < k) ws
 
 in-table-append : (k : ℕ) (vs ws : List Write) → InTable k vs → InTable k ws → InTable k (vs ++ ws)
 unfolding Each
@@ -96,29 +102,29 @@ writes-in-table m t (c ∷ cs) =
 -- the byte of a page after the last write at it, which was b before all
 abbrev pub byteAfter : ℕ → Option Write → ℕ
 byteAfter b none = b
-byteAfter b (some w) = w .byte
+byteAfter b (some w) = w .value
 
 -- the byte at page p is what the last write at it wrote
 last-written : (ledger : List ℕ) (ws : List Write) (p b : ℕ) (o : Option Write) → InTable (length ledger) ws → getD ledger p 0 ≡ byteAfter b o
-    → getD (afterWrites ledger ws) p 0 ≡ byteAfter b (lastElse o (keep (λ w. eqb (w .page) p) ws))
+    → getD (afterWrites ledger ws) p 0 ≡ byteAfter b (lastElse o (keep (λ w. eqb (w .at) p) ws))
 unfolding afterWrites lastElse keep Each
 last-written ledger [] p b o i h = h
 last-written ledger (w ∷ ws) p b o i h =
-    go (eqb (w .page) p) refl (λ o. last-written (set ledger (w .page) (w .byte)) ws p b o (rw (length-set ledger (w .page) (w .byte)) (i .1)))
+    go (eqb (w .at) p) refl (λ o. last-written (set ledger (w .at) (w .value)) ws p b o (rw (length-set ledger (w .at) (w .value)) (i .1)))
   where
     later : List Write
-    later = keep (λ w. eqb (w .page) p) ws
+    later = keep (λ w. eqb (w .at) p) ws
 
-    here : eqb (w .page) p ≡ true → getD (set ledger (w .page) (w .byte)) p 0 ≡ w .byte
-    here e = subst (λ (x : ℕ). getD (set ledger (w .page) (w .byte)) x 0 ≡ w .byte) (eqb-true (w .page) p e)
-        (getD-set-same ledger (w .page) (w .byte) 0 (i .0))
+    here : eqb (w .at) p ≡ true → getD (set ledger (w .at) (w .value)) p 0 ≡ w .value
+    here e = subst (λ (x : ℕ). getD (set ledger (w .at) (w .value)) x 0 ≡ w .value) (eqb-true (w .at) p e)
+        (getD-set-same ledger (w .at) (w .value) 0 (i .0))
 
-    go : (d : Bool) → eqb (w .page) p ≡ d
-        → ((o : Option Write) → getD (set ledger (w .page) (w .byte)) p 0 ≡ byteAfter b o
-        → getD (afterWrites (set ledger (w .page) (w .byte)) ws) p 0 ≡ byteAfter b (lastElse o later))
-        → getD (afterWrites (set ledger (w .page) (w .byte)) ws) p 0 ≡ byteAfter b (lastElse o (cond d (w ∷ later) later))
+    go : (d : Bool) → eqb (w .at) p ≡ d
+        → ((o : Option Write) → getD (set ledger (w .at) (w .value)) p 0 ≡ byteAfter b o
+        → getD (afterWrites (set ledger (w .at) (w .value)) ws) p 0 ≡ byteAfter b (lastElse o later))
+        → getD (afterWrites (set ledger (w .at) (w .value)) ws) p 0 ≡ byteAfter b (lastElse o (cond d (w ∷ later) later))
     go true e ih = ih (some w) (here e)
-    go false e ih = ih o (getD-set-other ledger (w .page) p (w .byte) 0 (λ q. eqb-false (w .page) p e (sym q)) ∙ h)
+    go false e ih = ih o (getD-set-other ledger (w .at) p (w .value) 0 (λ q. eqb-false (w .at) p e (sym q)) ∙ h)
 
 -- From any page table: the byte of a page at the end is what the last write at it wrote, else the byte at the start.
 pub last-byte : (m : Machine) (t : Tables) (cs : List Call) (p : ℕ)
@@ -136,7 +142,7 @@ zero-byte (suc k) (suc p) = zero-byte k p
 owner : (o : Option Write) (j : ℕ) → (byteAfter 0 o ≡ j + 1) ↔ (givenTo o ≡ some j)
 unfolding givenTo holder
 owner none j = (λ e. absurd (omega arith), λ e. absurd (let z : _≡_ {A = ℕ} 0 1 = cc in omega arith))
-owner (some w) j = go (w .byte)
+owner (some w) j = go (w .value)
   where
     go : (b : ℕ) → (b ≡ j + 1) ↔ (holder b ≡ some j)
     go zero = (λ e. absurd (omega arith), λ e. absurd (let z : _≡_ {A = ℕ} 0 1 = cc in omega arith))
@@ -144,10 +150,10 @@ owner (some w) j = go (w .byte)
 
 -- "From a page table of zeros, changed only by these calls, a page belongs to a job exactly when the last step that granted or released
 -- it gave it to that job."
-pub page-owner : (m : Machine) (k : ℕ) (records : List ℕ) (cs : List Call) (p j : ℕ) → let t : Tables = tablesOf (replicate k 0) records in
+pub page-owner : (m : Machine) (k : ℕ) (records free : List ℕ) (cs : List Call) (p j : ℕ) → let t : Tables = tablesOf (replicate k 0) records free in
     (getD (final m t cs .ledger) p 0 ≡ j + 1) ↔ (givenTo (lastWrite m t cs p) ≡ some j)
-page-owner m k records cs p j =
-    let t : Tables = tablesOf (replicate k 0) records in
+page-owner m k records free cs p j =
+    let t : Tables = tablesOf (replicate k 0) records free in
     let e : getD (final m t cs .ledger) p 0 ≡ byteAfter 0 (lastWrite m t cs p) =
     last-byte m t cs p ∙ ap (λ (b : ℕ). byteAfter b (lastWrite m t cs p)) (zero-byte k p) in
     rw e (owner (lastWrite m t cs p) j)

@@ -1,32 +1,33 @@
--- What the five calls promise: refusals change nothing; what a grant and a release say of page, node and ledger.
+-- What the calls promise: refusals change nothing; what a grant and a release say of page, node and ledger.
 -- Assumes nothing.
 use Prim.Native.Nat.{ℕ, zero, suc, _+_, _≤_, _<_}
 use mathlib.Core.Path.{_≡_, refl, sym, ap, subst, _∙_}
-use mathlib.Core.Logic.{_≢_}
-use mathlib.Core.Bool.{true, not}
+use mathlib.Core.Logic.{_↔_, _≢_}
+use mathlib.Core.Bool.{Bool, true, false, not, true≢false}
 use mathlib.Core.Option.{Option, none, some}
-use mathlib.Core.List.{List, [], _∷_}
+use mathlib.Core.List.{List, [], _∷_, map}
 use native.Mathlib.Omega.{arith}
-use borrow.Author.Tests.{eqb-true, eq-eqb, ltb-true, not-true}
+use borrow.Author.Tests.{eqb-true, eq-eqb, ltb-true, ltb-false, leb-false, lt-leb, not-true}
 use lib.ListN.{length, getD, drop, set, length-set}
 use lib.Seq.{length-sets, drop-set-lt}
 use lib.Dec.{ltb}
-use Rattle.rules.specs.Basics.{Each, sum}
+use Rattle.rules.specs.Basics.{Each, from, sum}
 use Rattle.rules.specs.Machine.{Machine, nodeCount, pagesOf, nodeOfPage, nodeOfCpu}
 use Rattle.rules.specs.Masks.{bit, has, both, isEmpty, below}
 use Rattle.rules.specs.Records.{Record, Policy, Mode, default, preferred, bind, interleave, list, ring, early, unknownMode, carries, modeOf}
 use Rattle.rules.specs.Records.{recordAt, putRecord, fresh, wellFormed, installed, rebound}
 use Rattle.rules.specs.SearchOrder.{Try, Plan, nearest, placed, near, tried, target, interleaved, planIn, plan, modeInForce, order}
-use Rattle.rules.specs.SearchOrder.{freePages, hasRoom, pickPage, chosen}
-use Rattle.rules.specs.Decisions.{Decision, refuse, accept}
-use Rattle.rules.specs.Calls.{granted, released, refused, Tables, Write, Store, Change, afterWrites, afterStores, applied}
-use Rattle.rules.specs.Calls.{granting, freeing, storing, isJob, releaseTablesOk, recordTablesOk, policyKnown, policyFits, rebindFits, holds}
-use Rattle.rules.specs.Calls.{limitOf, orderOf}
-use Rattle.rules.specs.Calls.{releaseDecision, installDecision, rebindDecision, clearDecision}
-use Rattle.rules.specs.Book.{Call, request, release, install, rebind, clear, decision, step}
+use Rattle.rules.specs.SearchOrder.{freePages, hasRoom, pickPage, counted, chosen}
+use Rattle.rules.specs.Decisions.{Decision, refuse, accept, unless}
+use Rattle.rules.specs.Calls.{granted, released, refused, Tables, Write, write, Store, Change, afterWrites, afterStores}
+use Rattle.rules.specs.Calls.{applied, granting, freeing, freeingAll, storing, isJob, freshTablesOk, releaseTablesOk, recordTablesOk, policyKnown}
+use Rattle.rules.specs.Calls.{policyFits, rebindFits, holds, countFits, limitOf, orderOf}
+use Rattle.rules.specs.Calls.{releaseDecision, freshDecision, installDecision, rebindDecision, clearDecision}
+use Rattle.rules.specs.Book.{Call, request, release, install, rebind, clear, freshTable, decision, step}
 use Rattle.rules.specs.Ledger.{writesOf}
-use Rattle.rules.proofs.Admission.{FreePage, isFree, no-room, Passes, accepted}
-use Rattle.rules.proofs.Decisions.{passed}
+use Rattle.rules.proofs.Admission.{FreePage, isFree, Passes, accepted}
+use Rattle.rules.proofs.InOrder.{pages-in-order}
+use Rattle.rules.proofs.Decisions.{not-accepted, passed, passed-to}
 use Rattle.rules.proofs.Lists.{_∈_, both-true, keep-member, map-member, FirstOf, first-keep, first-member, first-some}
 use Rattle.rules.proofs.Masks.{bit-and, bit-lt}
 use Rattle.rules.proofs.Sorted.{first-least}
@@ -91,39 +92,58 @@ clears n records j {x} e =
     let same : x ≡ storing j fresh = cc in
     (b .0, same)
 
--- "release 1, 2, 10"
+-- "release 1, 2, 10", 14
+pub record ReleasePasses (counts : List ℕ) (t : Tables) (j p : ℕ) : Type 0 where
+  pub tablesOk : releaseTablesOk counts t ≡ true
+  pub job : isJob (t .records) j ≡ true
+  pub held : holds counts (t .ledger) j p ≡ true
+  pub fits : countFits counts (t .free) (nodeOfPage counts p) ≡ true
+
 pub releases : (counts : List ℕ) (t : Tables) (j p : ℕ) {x : Change} → releaseDecision counts t j p ≡ accept x
-    → (holds counts (t .ledger) j p ≡ true) × (x ≡ freeing counts p)
+    → ReleasePasses counts t j p × (x ≡ freeing counts (t .free) p)
 unfolding releaseDecision
 releases counts t j p {x} e =
     let a = passed (releaseTablesOk counts t) 1 _ e in
     let b = passed (isJob (t .records) j) 2 _ (a .1) in
     let c = passed (holds counts (t .ledger) j p) 10 _ (b .1) in
-    let same : x ≡ freeing counts p = cc in
-    (c .0, same)
+    let d = passed (countFits counts (t .free) (nodeOfPage counts p)) 14 _ (c .1) in
+    let same : x ≡ freeing counts (t .free) p = cc in
+    (record { tablesOk = a .0; job = b .0; held = c .0; fits = d .0 }, same)
 
--- What an accepted call is: a request that is granted, a release of a held page, or a call that stores a record.
+-- the fresh table: 1 alone
+pub freshens : (counts : List ℕ) (t : Tables) {x : Change} → freshDecision counts t ≡ accept x
+    → (freshTablesOk counts (length (t .ledger)) (length (t .free)) ≡ true) × (x ≡ freeingAll counts)
+unfolding freshDecision
+freshens counts t {x} e =
+    let a = passed (freshTablesOk counts (length (t .ledger)) (length (t .free))) 1 _ e in
+    let same : x ≡ freeingAll counts = cc in
+    (a .0, same)
+
+-- What an accepted call is: a request that is granted, a release of a held page, a fresh table, or a call that stores a record.
 pub data Accepted (m : Machine) (t : Tables) (c : Call) (x : Change) : Type 0 where
-  grants : (j k : ℕ) (s : Try) → c ≡ request j k → Passes m t j k → chosen (m .pageCounts) (t .ledger) (orderOf m t j k) ≡ some s
-      → x ≡ granting (m .pageCounts) t j s → Accepted m t c x
-  frees : (j p : ℕ) → c ≡ release j p → holds (m .pageCounts) (t .ledger) j p ≡ true → x ≡ freeing (m .pageCounts) p → Accepted m t c x
+  grants : (j k : ℕ) (s : Try) → c ≡ request j k → Passes m t j k → chosen (t .free) (orderOf m t j k) ≡ some s
+      → hasRoom (m .pageCounts) (t .ledger) (s .node) ≡ true → x ≡ granting (m .pageCounts) t j s → Accepted m t c x
+  frees : (j p : ℕ) → c ≡ release j p → ReleasePasses (m .pageCounts) t j p → x ≡ freeing (m .pageCounts) (t .free) p → Accepted m t c x
+  freesAll : freshTablesOk (m .pageCounts) (length (t .ledger)) (length (t .free)) ≡ true → x ≡ freeingAll (m .pageCounts) → Accepted m t c x
   stores : (j : ℕ) (r : Record) → x ≡ storing j r → Accepted m t c x
 
 -- every accepted call is one of these
 pub accepted-is : (m : Machine) (t : Tables) (c : Call) {x : Change} → decision m t c ≡ accept x → Accepted m t c x
 unfolding decision
-accepted-is m t (request j k) e = let a = accepted m t j k e in grants j k (a .1) refl (a .0) (a .2) (a .3)
+accepted-is m t (request j k) e = let a = accepted m t j k e in grants j k (a .1) refl (a .0) (a .2) (a .3) (a .4)
 accepted-is m t (release j p) e = let a = releases (m .pageCounts) t j p e in frees j p refl (a .0) (a .1)
 accepted-is m t (install j p) e = stores j _ (installs (nodeCount m) (t .records) j p e .1)
 accepted-is m t (rebind j allowed) e = stores j _ (rebinds (nodeCount m) (t .records) j allowed e .1)
 accepted-is m t (clear j) e = stores j _ (clears (nodeCount m) (t .records) j e .1)
+accepted-is m t freshTable e = let a = freshens (m .pageCounts) t e in freesAll (a .0) (a .1)
 
 -- ---- refusals
 
 -- the answer of an accepted call is no refusal
 not-refused : {m : Machine} {t : Tables} {c : Call} {x : Change} → Accepted m t c x → (r : ℕ) → x .answer ≡ refused r → ⊥
-not-refused (grants j k s a b d e) r f = let z : _≡_ {A = ℕ} 0 1 = cc in omega arith
+not-refused (grants j k s a b d h e) r f = let z : _≡_ {A = ℕ} 0 1 = cc in omega arith
 not-refused (frees j p a b e) r f = let z : _≡_ {A = ℕ} 0 1 = cc in omega arith
+not-refused (freesAll a e) r f = let z : _≡_ {A = ℕ} 0 1 = cc in omega arith
 not-refused (stores j x e) r f = let z : _≡_ {A = ℕ} 0 1 = cc in omega arith
 
 -- "Every refusal .. leaves all lent memory unchanged"
@@ -146,10 +166,10 @@ ledger-by-writes m t c = go (decision m t c)
     go (refuse r) = refl
     go (accept x) = refl
 
-writes-length : (ledger : List ℕ) (ws : List Write) → length (afterWrites ledger ws) ≡ length ledger
+writes-length : (table : List ℕ) (ws : List Write) → length (afterWrites table ws) ≡ length table
 unfolding afterWrites
-writes-length ledger [] = refl
-writes-length ledger (w ∷ ws) = writes-length (set ledger (w .page) (w .byte)) ws ∙ length-set ledger (w .page) (w .byte)
+writes-length table [] = refl
+writes-length table (w ∷ ws) = writes-length (set table (w .at) (w .value)) ws ∙ length-set table (w .at) (w .value)
 
 -- no call makes the page table longer or shorter
 pub ledger-length : (m : Machine) (t : Tables) (c : Call) → length (step m t c .tables .ledger) ≡ length (t .ledger)
@@ -168,6 +188,15 @@ records-length m t c = go (decision m t c)
     go : (d : Decision Change) → length (applied t d .tables .records) ≡ length (t .records)
     go (refuse r) = refl
     go (accept x) = stores-length (t .records) (x .stores)
+
+-- no call makes the table of free counts longer or shorter
+pub free-length : (m : Machine) (t : Tables) (c : Call) → length (step m t c .tables .free) ≡ length (t .free)
+unfolding step applied
+free-length m t c = go (decision m t c)
+  where
+    go : (d : Decision Change) → length (applied t d .tables .free) ≡ length (t .free)
+    go (refuse r) = refl
+    go (accept x) = writes-length (t .free) (x .recounts)
 
 -- ---- the search
 
@@ -229,28 +258,28 @@ module _ (counts ledger : List ℕ) (n : ℕ) where
 
 -- ---- request
 
--- "The first node in the order with a free page grants its lowest free page": what a grant of page p of node n says
+-- M-100: the first node in the order that is counted above 0 "grants its lowest free page": what a grant of page p of node n says
 pub record Granted (m : Machine) (t : Tables) (j k n p : ℕ) : Type 0 where
   pub passes : Passes m t j k
   pub served : Try
   pub servedBy : served .node ≡ n
-  pub firstWithRoom : FirstOf (λ s. hasRoom (m .pageCounts) (t .ledger) (s .node)) (orderOf m t j k) served
+  pub firstCounted : FirstOf (λ s. counted (t .free) (s .node)) (orderOf m t j k) served
   pub lowest : LowestFree (m .pageCounts) (t .ledger) n p
   pub allowed : has (limitOf t j) n ≡ true
 
 module _ (m : Machine) (t : Tables) (j k : ℕ) where
   -- the try that serves a request: what it grants
-  pub serves : {s : Try} → Passes m t j k → chosen (m .pageCounts) (t .ledger) (orderOf m t j k) ≡ some s
+  pub serves : {s : Try} → Passes m t j k → chosen (t .free) (orderOf m t j k) ≡ some s → hasRoom (m .pageCounts) (t .ledger) (s .node) ≡ true
       → Granted m t j k (s .node) (pickPage (m .pageCounts) (t .ledger) j (s .node))
   unfolding chosen orderOf
-  serves {s} a e =
-      let f = first-keep (λ s. hasRoom (m .pageCounts) (t .ledger) (s .node)) (orderOf m t j k) e in
+  serves {s} a e room =
+      let f = first-keep (λ s. counted (t .free) (s .node)) (orderOf m t j k) e in
       record {
         passes = a;
         served = s;
         servedBy = refl;
-        firstWithRoom = f;
-        lowest = picked-lowest (m .pageCounts) (t .ledger) (s .node) j (f .passes);
+        firstCounted = f;
+        lowest = picked-lowest (m .pageCounts) (t .ledger) (s .node) j room;
         allowed = order-allowed (nodeCount m) (m .distances) (limitOf t j) (recordAt (t .records) j) (nodeOfCpu (m .cpuNodes) k) (first-member f);
       }
 
@@ -261,11 +290,12 @@ unfolding step applied
 granted-by m t c {n} {p} e = go (decision m t c) refl e
   where
     by : {x : Change} → Accepted m t c x → x .answer ≡ granted n p → (j : ℕ) × (k : ℕ) × (c ≡ request j k) × Granted m t j k n p
-    by (grants j k s q a b d) e =
+    by (grants j k s q a b h d) e =
         let node : s .node ≡ n = cc in
         let page : pickPage (m .pageCounts) (t .ledger) j (s .node) ≡ p = cc in
-        (j, k, q, subst (λ (x : ℕ). Granted m t j k x p) node (subst (Granted m t j k (s .node)) page (serves m t j k a b)))
+        (j, k, q, subst (λ (x : ℕ). Granted m t j k x p) node (subst (Granted m t j k (s .node)) page (serves m t j k a b h)))
     by (frees j q a b d) e = absurd (let z : _≡_ {A = ℕ} 0 1 = cc in omega arith)
+    by (freesAll a d) e = absurd (let z : _≡_ {A = ℕ} 0 1 = cc in omega arith)
     by (stores j r d) e = absurd (let z : _≡_ {A = ℕ} 0 1 = cc in omega arith)
 
     go : (d : Decision Change) → decision m t c ≡ d → applied t d .answer ≡ granted n p
@@ -293,10 +323,11 @@ granted-in-node g = page-node (g .lowest .page .ofNode)
 pub granted-page-lt : {m : Machine} {t : Tables} {j k n p : ℕ} → Granted m t j k n p → p < sum (m .pageCounts)
 granted-page-lt g = page-lt (g .lowest .page .ofNode)
 
--- every node tried before the one that serves had no free page
-pub earlier-full : {m : Machine} {t : Tables} {j k n p : ℕ} (g : Granted m t j k n p) {s : Try} → s ∈ g .firstWithRoom .before
-    → (q : ℕ) → FreePage (m .pageCounts) (t .ledger) (s .node) q → ⊥
-earlier-full {m} {t} g {s} h = no-room (m .pageCounts) (t .ledger) (s .node) .0 (g .firstWithRoom .failed s h)
+-- M-100: "pass over nodes counted 0": every node tried before the one that serves is counted 0
+pub earlier-counted-0 : {m : Machine} {t : Tables} {j k n p : ℕ} (g : Granted m t j k n p) {s : Try} → s ∈ g .firstCounted .before
+    → getD (t .free) (s .node) 0 ≡ 0
+unfolding counted
+earlier-counted-0 {t = t} g {s} h = let l = ltb-false 0 (getD (t .free) (s .node) 0) (g .firstCounted .failed s h) in omega arith
 
 -- ---- release
 
@@ -321,11 +352,12 @@ unfolding step applied
 released-by m t c {n} {q} e = go (decision m t c) refl e
   where
     by : {x : Change} → Accepted m t c x → x .answer ≡ released n q → (j : ℕ) × (p : ℕ) × (c ≡ release j p) × Released m t j p n q
-    by (grants j k s a b d f) e = absurd (let z : _≡_ {A = ℕ} 0 1 = cc in omega arith)
+    by (grants j k s a b d h f) e = absurd (let z : _≡_ {A = ℕ} 0 1 = cc in omega arith)
+    by (freesAll a d) e = absurd (let z : _≡_ {A = ℕ} 0 1 = cc in omega arith)
     by (frees j p a b d) e =
         let page : p ≡ q = cc in
         let node : nodeOfPage (m .pageCounts) p ≡ n = cc in
-        let h = held-page (m .pageCounts) (t .ledger) j p b in
+        let h = held-page (m .pageCounts) (t .ledger) j p (b .held) in
         (j, p, a, record { asked = page; inRange = rw (sym page) (h .0); held = rw (sym page) (h .1); nodeIs = rw (sym page) node })
     by (stores j r d) e = absurd (let z : _≡_ {A = ℕ} 0 1 = cc in omega arith)
 
@@ -342,17 +374,66 @@ released-is m t j p {n} {q} e =
     let samePage : g .1 ≡ p = cc in
     subst (λ (x : ℕ). Released m t x p n q) sameJob (subst (λ (x : ℕ). Released m t (g .0) x n q) samePage (g .3))
 
+-- M-100: "a release that would take a count above the node's pages": one that passes 1, 2 and 10 and finds that
+pub record MeetsFullCount (counts : List ℕ) (t : Tables) (j p : ℕ) : Type 0 where
+  pub tablesOk : releaseTablesOk counts t ≡ true
+  pub job : isJob (t .records) j ≡ true
+  pub held : holds counts (t .ledger) j p ≡ true
+  pub above : getD counts (nodeOfPage counts p) 0 < getD (t .free) (nodeOfPage counts p) 0 + 1
+
+-- a release is refused 14 exactly then
+pub release-14 : (m : Machine) (t : Tables) (j p : ℕ) → (step m t (release j p) .answer ≡ refused 14) ↔ MeetsFullCount (m .pageCounts) t j p
+unfolding step decision applied releaseDecision countFits
+release-14 m t j p = (λ e. there (releaseDecision (m .pageCounts) t j p) refl e, λ h. back h)
+  where
+    last : (b : Bool) (x : Change) → unless b 14 (accept x) ≡ refuse 14 → b ≡ false
+    last true x e = absurd (not-accepted 14 _ e refl)
+    last false x e = refl
+
+    there : (d : Decision Change) → releaseDecision (m .pageCounts) t j p ≡ d → applied t d .answer ≡ refused 14 → MeetsFullCount (m .pageCounts) t j p
+    there (accept x) f e = absurd (not-refused (accepted-is m t (release j p) f) 14 e)
+    there (refuse q) f e =
+        let same : q ≡ 14 = cc in
+        let a = passed-to (releaseTablesOk (m .pageCounts) t) 1 _ f (λ y. omega arith) in
+        let b = passed-to (isJob (t .records) j) 2 _ (a .1) (λ y. omega arith) in
+        let c = passed-to (holds (m .pageCounts) (t .ledger) j p) 10 _ (b .1) (λ y. omega arith) in
+        let d = last _ _ (c .1 ∙ ap refuse same) in
+        record { tablesOk = a .0; job = b .0; held = c .0; above = leb-false _ _ d }
+
+    back : MeetsFullCount (m .pageCounts) t j p → step m t (release j p) .answer ≡ refused 14
+    back h = rw (h .tablesOk, h .job, h .held, lt-leb _ _ (h .above))
+
+-- M-100: the fresh table "can be refused only 1", exactly when what it is lent is not in order
+pub fresh-refused : (m : Machine) (t : Tables) (r : ℕ) → (step m t freshTable .answer ≡ refused r)
+    ↔ ((r ≡ 1) × (freshTablesOk (m .pageCounts) (length (t .ledger)) (length (t .free)) ≡ false))
+unfolding step decision applied freshDecision
+fresh-refused m t r = go (freshTablesOk (m .pageCounts) (length (t .ledger)) (length (t .free))) refl
+  where
+    go : (b : Bool) → freshTablesOk (m .pageCounts) (length (t .ledger)) (length (t .free)) ≡ b
+        → (applied t (unless b 1 (accept (freeingAll (m .pageCounts)))) .answer ≡ refused r) ↔ ((r ≡ 1) × (b ≡ false))
+    go true e = (λ h. absurd (let z : _≡_ {A = ℕ} 0 1 = cc in omega arith), λ h. absurd (true≢false (h .1)))
+    go false e = (λ h. let q : r ≡ 1 = cc in (q, refl), λ h. ap refused (sym (h .0)))
+
 -- ---- what a call writes
 
-in-table : (ledger : List ℕ) (p d v : ℕ) → getD ledger p d ≡ v → v ≢ d → p < length ledger
+-- an entry that is not what stands for none is in the table
+pub in-table : (ledger : List ℕ) (p d v : ℕ) → getD ledger p d ≡ v → v ≢ d → p < length ledger
 in-table [] p d v e n = absurd (n (sym e))
 in-table (x ∷ xs) zero d v e n = omega arith
 in-table (x ∷ xs) (suc p) d v e n = omega (arith, in-table xs p d v e n)
 
 -- A write at a page of the machine that is in the table.
 pub record AtPage (counts ledger : List ℕ) (w : Write) : Type 0 where
-  pub ofMachine : w .page < sum counts
-  pub inTable : w .page < length ledger
+  pub ofMachine : w .at < sum counts
+  pub inTable : w .at < length ledger
+
+-- every page of the machine is one
+zeros-from : (counts ledger : List ℕ) (a k : ℕ) → a + k ≤ sum counts → sum counts ≤ length ledger
+    → Each (AtPage counts ledger) (map (λ p. write p 0) (from a k))
+unfolding from Each
+zeros-from counts ledger a zero h fits = tt
+zeros-from counts ledger a (suc k) h fits =
+    (record { ofMachine = omega arith; inTable = omega arith }, zeros-from counts ledger (suc a) k (omega arith) fits)
 
 -- a call writes only at pages of the machine, and in the table
 pub writes-at-pages : (m : Machine) (t : Tables) (c : Call) → Each (AtPage (m .pageCounts) (t .ledger)) (writesOf (decision m t c))
@@ -360,11 +441,12 @@ unfolding writesOf Each
 writes-at-pages m t c = go (decision m t c) refl
   where
     by : {x : Change} → Accepted m t c x → Each (AtPage (m .pageCounts) (t .ledger)) (x .writes)
-    by (grants j k s q a b d) =
-        let g = serves m t j k a b in
+    by (grants j k s q a b h d) =
+        let g = serves m t j k a b h in
         rw d (record { ofMachine = granted-page-lt g; inTable = in-table (t .ledger) _ 1 0 (granted-was-free g) (λ z. omega arith) }, tt)
+    by (freesAll a d) = rw d (zeros-from (m .pageCounts) (t .ledger) 0 (sum (m .pageCounts)) (omega arith) (pages-in-order (m .pageCounts) _ _ a .fits))
     by (frees j p a b d) =
-        let h = held-page (m .pageCounts) (t .ledger) j p b in
+        let h = held-page (m .pageCounts) (t .ledger) j p (b .held) in
         rw d (record { ofMachine = h .0; inTable = in-table (t .ledger) p 0 (j + 1) (h .1) (λ z. omega arith) }, tt)
     by (stores j r d) = rw d tt
 
@@ -377,8 +459,8 @@ past-kept : (pages : ℕ) (counts ledger table : List ℕ) (ws : List Write) →
 unfolding afterWrites Each
 past-kept pages counts ledger table [] h e = refl
 past-kept pages counts ledger table (w ∷ ws) h e =
-    past-kept pages counts (set ledger (w .page) (w .byte)) table ws (h .1) e
-    ∙ drop-set-lt pages ledger (w .page) (w .byte) (rw e (h .0 .ofMachine))
+    past-kept pages counts (set ledger (w .at) (w .value)) table ws (h .1) e
+    ∙ drop-set-lt pages ledger (w .at) (w .value) (rw e (h .0 .ofMachine))
 
 -- "Bytes past the last page are never changed": by any call, on any tables
 pub past-pages-kept : (m : Machine) (t : Tables) (c : Call)

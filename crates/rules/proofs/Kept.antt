@@ -22,14 +22,15 @@ use Rattle.rules.specs.Records.{jobTableOk, placesOf, recordAt, putRecor
 use Rattle.rules.specs.Records.{modeKnown, flagKnown, wellFormed, installed, rebound, withTurn}
 use Rattle.rules.specs.SearchOrder.{near, Try, try, Plan, nearest, placed, tried, nodeAt, ringTries, target, interleaved, planIn, modeInForce}
 use Rattle.rules.specs.SearchOrder.{plan, order}
-use Rattle.rules.specs.SearchOrder.{hasRoom, chosen}
+use Rattle.rules.specs.SearchOrder.{counted, chosen}
 use Rattle.rules.specs.Decisions.{Decision, refuse, accept}
 use Rattle.rules.specs.Calls.{Tables, Change, Store, afterStores, applied, requestTablesOk, recordTablesOk, flagFits, policyKnown}
 use Rattle.rules.specs.Calls.{limitOf, orderOf}
-use Rattle.rules.specs.Book.{Call, request, release, install, rebind, clear, decision, step, final}
+use Rattle.rules.specs.Book.{Call, request, release, install, rebind, clear, freshTable, decision, step, final}
 use Rattle.rules.proofs.Admission.{Passes, accepted}
 use Rattle.rules.proofs.Bytes.{AreBytes}
-use Rattle.rules.proofs.Calls.{InstallPasses, RebindPasses, installs, rebinds, clears, releases}
+use Rattle.rules.proofs.Calls.{InstallPasses, RebindPasses, installs, rebinds, clears, releases, freshens}
+use Rattle.rules.proofs.InOrder.{release-ok, fresh-ok, pages-in-order}
 use Rattle.rules.proofs.Lists.{_∈_, both-true, both-hold, keep-member, first-keep, first-member, map-member, around-member}
 use Rattle.rules.proofs.Masks.{within-bits, below-width}
 use Rattle.rules.proofs.Records.{Storable, record-storable, fresh-storable, installed-storable, rebound-storable, turn-storable, record-same}
@@ -135,14 +136,7 @@ nodes-few n e = leb-true n mostNodes (both-true {a = leb 1 n} {b = leb n mostNod
 
 -- tables in order at a request have at most 64 nodes
 pub request-nodes : (m : Machine) (t : Tables) → requestTablesOk m t ≡ true → nodeCount m ≤ mostNodes
-unfolding requestTablesOk machineOk
-request-nodes m t e =
-    let n = nodeCount m in
-    let p = both-true {a = machineOk m && pageTableOk (m .pageCounts) (length (t .ledger))} {b = jobTableOk (length (t .records))} e in
-    let q = both-true {a = machineOk m} {b = pageTableOk (m .pageCounts) (length (t .ledger))} (p .0) in
-    let r = both-true {a = nodesOk n && pagesOk (m .pageCounts) && cpusOk n (m .cpuNodes)} {b = distancesOk n (m .distances)} (q .0) in
-    let s = both-true {a = nodesOk n && pagesOk (m .pageCounts)} {b = cpusOk n (m .cpuNodes)} (r .0) in
-    nodes-few n (both-true {a = nodesOk n} {b = pagesOk (m .pageCounts)} (s .0) .0)
+request-nodes m t e = pages-in-order (m .pageCounts) _ _ (fresh-ok (m .pageCounts) t (release-ok m t e)) .counts-ok .nodesMost
 
 -- N in order is at most 64
 pub record-nodes : (n words : ℕ) → recordTablesOk n words ≡ true → n ≤ mostNodes
@@ -162,7 +156,7 @@ storeAs j r = record { job = j; stored = r }
 
 -- the record that a granted request stores
 pub request-good : (m : Machine) (t : Tables) (j k : ℕ) (s : Try) → Passes m t j k
-    → chosen (m .pageCounts) (t .ledger) (orderOf m t j k) ≡ some s
+    → chosen (t .free) (orderOf m t j k) ≡ some s
     → Good (nodeCount m) (t .records) (storeAs j (withTurn (recordAt (t .records) j) (s .turn)))
 unfolding orderOf Fits chosen
 request-good m t j k s p e =
@@ -170,7 +164,7 @@ request-good m t j k s p e =
     let r = recordAt (t .records) j in
     let l = request-nodes m t (p .tablesOk) in
     let h = formed n r (p .formed) in
-    let member = first-member (first-keep (λ t. hasRoom (m .pageCounts) _ (t .node)) (orderOf m t j k) e) in
+    let member = first-member (first-keep (λ s. counted (t .free) (s .node)) (orderOf m t j k) e) in
     let fits = order-fits n (m .distances) (limitOf t j) r (nodeOfCpu (m .cpuNodes) k) l h s member in
     record {
       there = ltb-true j (jobCount (length (t .records))) (p .job);
@@ -186,6 +180,7 @@ BytePlaces (release j p) = Unit {0}
 BytePlaces (install j p) = AreBytes (p .places)
 BytePlaces (rebind j allowed) = Unit {0}
 BytePlaces (clear j) = Unit {0}
+BytePlaces freshTable = Unit {0}
 
 install-good : (n : ℕ) (records : List ℕ) (j : ℕ) (p : Policy) → AreBytes (p .places) → InstallPasses n records j p
     → Good n records (storeAs j (installed (recordAt records j) p))
@@ -218,7 +213,7 @@ stores-good : (m : Machine) (t : Tables) (c : Call) → BytePlaces c → {x : Ch
 unfolding decision Each
 stores-good m t (request j k) b e =
     let a = accepted m t j k e in
-    rw (a .3) (request-good m t j k (a .1) (a .0) (a .2), tt)
+    rw (a .4) (request-good m t j k (a .1) (a .0) (a .2), tt)
 stores-good m t (release j p) b e = rw (releases (m .pageCounts) t j p e .1) tt
 stores-good m t (install j p) b e =
     let a = installs (nodeCount m) (t .records) j p e in
@@ -229,6 +224,7 @@ stores-good m t (rebind j allowed) b e =
 stores-good m t (clear j) b e =
     let a = clears (nodeCount m) (t .records) j e in
     rw (a .1) (record { there = ltb-true j (jobCount (length (t .records))) (a .0); storable = fresh-storable; is-formed = fresh-formed (nodeCount m) }, tt)
+stores-good m t freshTable b e = rw (freshens (m .pageCounts) t e .1) tt
 
 -- ---- every call
 

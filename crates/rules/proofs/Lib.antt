@@ -16,3 +16,5 @@ pub mod Pages
 pub mod InOrder
 pub mod Calls
 pub mod Book
+pub mod FreeCounts
+pub mod AsBefore

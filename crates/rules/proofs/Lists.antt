@@ -215,6 +215,11 @@ module _ {A : Type 0} where
             failed = λ z m. ⊎-elim (λ q. ap p q ∙ e) (λ n. r .failed z n) (List·Memᴰ·cases-cons m);
           }
 
+  -- and the other way: the first that passes is the first that is kept
+  pub keep-first : {p : A → Bool} {xs : List A} {x : A} → FirstOf p xs x → first (keep p xs) ≡ some x
+  unfolding first keep
+  keep-first {p} {xs} {x} f = rw (f .split, keep-append p (f .before) (x ∷ f .after), none-keep p (f .before) (f .failed), f .passes)
+
   -- the first that passes is one of the list
   pub first-member : {p : A → Bool} {xs : List A} {x : A} → FirstOf p xs x → x ∈ xs
   first-member {x = x} f = subst (λ (l : List A). x ∈ l) (sym (f .split)) (Memᴰ·append-right (f .before) (List·Memᴰ·head refl))
@@ -235,6 +240,12 @@ module _ {A : Type 0} where
   unfolding first firstOr isNil
   first-some [] d h = absurd (true≢false h)
   first-some (y ∷ ys) d h = refl
+
+-- an entry that is in the list is the same whatever stands for none
+pub entry-same : (xs : List ℕ) (i a b : ℕ) → i < length xs → getD xs i a ≡ getD xs i b
+entry-same [] i a b h = absurd (omega arith)
+entry-same (x ∷ xs) zero a b h = refl
+entry-same (x ∷ xs) (suc i) a b h = entry-same xs i a b (omega arith)
 
 -- ---- members of the lists that are made
 

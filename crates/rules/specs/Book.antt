@@ -4,15 +4,18 @@ use mathlib.Core.List.{List, [], _∷_}
 use Rattle.rules.specs.Machine.{Machine, nodeCount}
 use Rattle.rules.specs.Records.{Policy}
 use Rattle.rules.specs.Decisions.{Decision}
-use Rattle.rules.specs.Calls.{Answer, Tables, Change, Outcome, applied, requestDecision, releaseDecision, installDecision, rebindDecision, clearDecision}
+use Rattle.rules.specs.Calls.{Answer, Tables, Change, Outcome, applied, requestDecision, releaseDecision}
+use Rattle.rules.specs.Calls.{freshDecision, installDecision, rebindDecision, clearDecision}
 
--- "The calls are request, release, install, rebind and clear"
+-- "The calls are request, release, install, rebind and clear; a later call that changes pages, records or limits joins them": M-100's fresh
+-- table
 pub data Call : Type 0 where
   request : (job cpu : ℕ) → Call
   release : (job page : ℕ) → Call
   install : (job : ℕ) (policy : Policy) → Call
   rebind : (job allowed : ℕ) → Call
   clear : (job : ℕ) → Call
+  freshTable : Call
 
 -- "The book finds each answer or refusal by this document's rules, on its own ledger and records"
 unfoldable pub decision : Machine → Tables → Call → Decision Change
@@ -21,6 +24,7 @@ decision m t (release j p) = releaseDecision (m .pageCounts) t j p
 decision m t (install j p) = installDecision (nodeCount m) (t .records) j p
 decision m t (rebind j allowed) = rebindDecision (nodeCount m) (t .records) j allowed
 decision m t (clear j) = clearDecision (nodeCount m) (t .records) j
+decision m t freshTable = freshDecision (m .pageCounts) t
 
 -- one call: its answer, and the tables afterwards
 unfoldable pub step : Machine → Tables → Call → Outcome

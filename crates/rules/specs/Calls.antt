@@ -1,16 +1,17 @@
--- Document 01, "Refusal numbers": the five calls. For each, what it answers and what it leaves in every table, for all inputs.
-use Prim.Native.Nat.{ℕ, _+_}
+-- Document 01, "Refusal numbers", with request M-100, "Free counts kept, not counted": the six calls. For each, what it answers and what
+-- it leaves in every table, for all inputs.
+use Prim.Native.Nat.{ℕ, _+_, _-_}
 use mathlib.Core.Bool.{Bool, false, not, _&&_, _||_}
-use mathlib.Core.List.{List, [], _∷_}
+use mathlib.Core.List.{List, [], _∷_, map}
 use mathlib.Core.Option.{Option, none, some}
 use lib.ListN.{length, getD, set}
-use lib.Dec.{ltb, eqb}
-use Rattle.rules.specs.Basics.{sum, between}
+use lib.Dec.{leb, ltb, eqb}
+use Rattle.rules.specs.Basics.{from, sum, between}
 use Rattle.rules.specs.Machine.{Machine, nodeCount, nodesOk, pagesOk, machineOk, pageTableOk, nodeOfPage, nodeOfCpu}
 use Rattle.rules.specs.Masks.{both, below, isEmpty}
 use Rattle.rules.specs.Records.{Policy, Record, Carries, nothing, aMask, aList, unknown, carries, modeOf, flagOf, modeKnown, flagKnown}
 use Rattle.rules.specs.Records.{placesPerJob, jobCount, jobTableOk, recordAt, putRecord, fresh, wellFormed, installed, rebound, withTurn}
-use Rattle.rules.specs.SearchOrder.{Try, plan, order, chosen, pickPage}
+use Rattle.rules.specs.SearchOrder.{Try, plan, order, hasRoom, chosen, pickPage}
 use Rattle.rules.specs.Decisions.{Decision, refuse, accept, unless, then}
 
 -- A call's answer. "Every refusal returns its number alone"
@@ -29,35 +30,48 @@ numbers (refused r) = r ∷ 255 ∷ 4294967295 ∷ []
 
 -- ---- what a call changes
 
--- The tables that the calls keep up: the page table and the job table. "the page table handed in is the ledger, the job table handed
--- in the records"
+-- The tables that the calls keep up: the page table, the job table and the free counts. "the page table handed in is the ledger, the job
+-- table handed in the records; a later table that the calls keep up comes in likewise"
 pub record Tables : Type 0 where
   pub ledger : List ℕ
   pub records : List ℕ
+  pub free : List ℕ
 
-abbrev pub tablesOf : List ℕ → List ℕ → Tables
-tablesOf ledger records = record { ledger = ledger; records = records }
+abbrev pub tablesOf : List ℕ → List ℕ → List ℕ → Tables
+tablesOf ledger records free = record { ledger = ledger; records = records; free = free }
 
--- A byte that is written in the ledger at a page.
+-- the tables with another job table, and with another page table and free counts: what a call leaves that is lent these alone
+abbrev pub withRecords : Tables → List ℕ → Tables
+withRecords t records = tablesOf (t .ledger) records (t .free)
+
+abbrev pub withPages : Tables → List ℕ → List ℕ → Tables
+withPages t ledger free = tablesOf ledger (t .records) free
+
+-- A number that is written in a table at an index: a byte in the ledger at a page, or a free count at a node.
 pub record Write : Type 0 where
-  pub page : ℕ
-  pub byte : ℕ
+  pub at : ℕ
+  pub value : ℕ
+
+abbrev pub write : ℕ → ℕ → Write
+write at value = record { at = at; value = value }
 
 -- A record that is stored for a job.
 pub record Store : Type 0 where
   pub job : ℕ
   pub stored : Record
 
--- What an accepted call does: its answer, the bytes that it writes in the ledger, and the records that it stores.
+-- What an accepted call does: its answer, the bytes that it writes in the ledger, the records that it stores, and the free counts that
+-- it sets.
 pub record Change : Type 0 where
   pub answer : Answer
   pub writes : List Write
   pub stores : List Store
+  pub recounts : List Write
 
--- the ledger after some writes, one after the other
+-- a table after some writes, one after the other
 unfoldable pub afterWrites : List ℕ → List Write → List ℕ
-afterWrites ledger [] = ledger
-afterWrites ledger (w ∷ ws) = afterWrites (set ledger (w .page) (w .byte)) ws
+afterWrites table [] = table
+afterWrites table (w ∷ ws) = afterWrites (set table (w .at) (w .value)) ws
 
 -- the job table after some records are stored
 unfoldable pub afterStores : List ℕ → List Store → List ℕ
@@ -75,15 +89,32 @@ outcome answer tables = record { answer = answer; tables = tables }
 -- A decided call applied to the tables; "a refused call changes nothing"
 unfoldable pub applied : Tables → Decision Change → Outcome
 applied t (refuse r) = outcome (refused r) t
-applied t (accept c) = outcome (c .answer) (tablesOf (afterWrites (t .ledger) (c .writes)) (afterStores (t .records) (c .stores)))
+applied t (accept c) =
+    outcome (c .answer)
+    (tablesOf (afterWrites (t .ledger) (c .writes)) (afterStores (t .records) (c .stores)) (afterWrites (t .free) (c .recounts)))
 
 -- "Install stores ..", "Rebind replaces ..", "Clear makes the record fresh": a record for job j, and nothing else changes
 abbrev pub storing : ℕ → Record → Change
-storing j r = record { answer = done; writes = []; stores = record { job = j; stored = r } ∷ [] }
+storing j r = record { answer = done; writes = []; stores = record { job = j; stored = r } ∷ []; recounts = [] }
 
--- "a release [writes] 0"
-abbrev pub freeing : List ℕ → ℕ → Change
-freeing counts p = record { answer = released (nodeOfPage counts p) p; writes = record { page = p; byte = 0 } ∷ []; stores = [] }
+-- "a release [writes] 0"; M-100: the node has one free page more
+abbrev pub freeing : List ℕ → List ℕ → ℕ → Change
+freeing counts free p = record {
+  answer = released (nodeOfPage counts p) p;
+  writes = write p 0 ∷ [];
+  stores = [];
+  recounts = write (nodeOfPage counts p) (getD free (nodeOfPage counts p) 0 + 1) ∷ [];
+}
+
+-- M-100: "A fresh table and its counts are made by one call: it frees every page of the machine, .. and in the ledger is a release of each
+-- page"
+abbrev pub freeingAll : List ℕ → Change
+freeingAll counts = record {
+  answer = done;
+  writes = map (λ p. write p 0) (from 0 (sum counts));
+  stores = [];
+  recounts = map (λ n. write n (getD counts n 0)) (from 0 (length counts));
+}
 
 -- ---- the tests
 
@@ -95,14 +126,22 @@ isJob records j = ltb j (jobCount (length records))
 abbrev pub isCpu : List ℕ → ℕ → Bool
 isCpu cpus k = ltb k (length cpus)
 
+-- M-100: "A table not of N entries is refusal 1": by the lengths of the free counts and of the page counts
+abbrev pub freeOk : ℕ → ℕ → Bool
+freeOk n entries = eqb entries n
+
 -- "1 looks only at what a call is lent: all tables at request"
 unfoldable pub requestTablesOk : Machine → Tables → Bool
-requestTablesOk m t = machineOk m && pageTableOk (m .pageCounts) (length (t .ledger)) && jobTableOk (length (t .records))
+requestTablesOk m t =
+    machineOk m && pageTableOk (m .pageCounts) (length (t .ledger)) && jobTableOk (length (t .records)) && freeOk (nodeCount m) (length (t .free))
 
--- "1 looks only at what a call is lent: .. page counts, page and job table at release"
+-- M-100: the fresh table is lent page counts, page table and free counts; the last two by their lengths
+unfoldable pub freshTablesOk : List ℕ → ℕ → ℕ → Bool
+freshTablesOk counts bytes entries = nodesOk (length counts) && pagesOk counts && pageTableOk counts bytes && freeOk (length counts) entries
+
+-- "1 looks only at what a call is lent: .. page counts, page and job table at release", and the free counts
 unfoldable pub releaseTablesOk : List ℕ → Tables → Bool
-releaseTablesOk counts t =
-    nodesOk (length counts) && pagesOk counts && pageTableOk counts (length (t .ledger)) && jobTableOk (length (t .records))
+releaseTablesOk counts t = freshTablesOk counts (length (t .ledger)) (length (t .free)) && jobTableOk (length (t .records))
 
 -- "1 looks only at what a call is lent: .. else N and the job table": by the job table's length
 unfoldable pub recordTablesOk : ℕ → ℕ → Bool
@@ -139,6 +178,10 @@ rebindFits r = not (isEmpty (r .effective) && not (eqb (r .flag) 1) && not (isEm
 unfoldable pub holds : List ℕ → List ℕ → ℕ → ℕ → Bool
 holds counts ledger j p = ltb p (sum counts) && eqb (getD ledger p 0) (j + 1)
 
+-- M-100: "a release that would take a count above the node's pages answers 14"
+unfoldable pub countFits : List ℕ → List ℕ → ℕ → Bool
+countFits counts free n = leb (getD free n 0 + 1) (getD counts n 0)
+
 -- ---- the calls, decided
 
 -- "Order: request 1, 2, 3, 4": a request's tests before the search; the record that it goes by
@@ -159,30 +202,38 @@ unfoldable pub orderOf : Machine → Tables → ℕ → ℕ → List Try
 orderOf m t j k =
     order (nodeCount m) (m .distances) (limitOf t j) (plan (limitOf t j) (recordAt (t .records) j) (nodeOfCpu (m .cpuNodes) k))
 
--- "grants its lowest free page"; "A grant to job j writes j + 1 at its page in the ledger"; the turn becomes what the try leaves
+-- "grants its lowest free page"; "A grant to job j writes j + 1 at its page in the ledger"; the turn becomes what the try leaves; M-100: the
+-- node has one free page less
 abbrev pub granting : List ℕ → Tables → ℕ → Try → Change
 granting counts t j s = record {
   answer = granted (s .node) (pickPage counts (t .ledger) j (s .node));
-  writes = record { page = pickPage counts (t .ledger) j (s .node); byte = j + 1 } ∷ [];
+  writes = write (pickPage counts (t .ledger) j (s .node)) (j + 1) ∷ [];
   stores = record { job = j; stored = withTurn (recordAt (t .records) j) (s .turn) } ∷ [];
+  recounts = write (s .node) (getD (t .free) (s .node) 0 - 1) ∷ [];
 }
 
--- "8 no node in the order has a free page"
+-- M-100: "If a request, before it finds a page, meets a node counted above 0 with no free page, it answers new refusal 14 ..; in a request
+-- it comes before 8, which then means every node in the order counted 0"
 unfoldable pub serve : List ℕ → Tables → ℕ → Option Try → Decision Change
 serve counts t j none = refuse 8
-serve counts t j (some s) = accept (granting counts t j s)
+serve counts t j (some s) = unless (hasRoom counts (t .ledger) (s .node)) 14 (accept (granting counts t j s))
 
--- "Order: request 1, 2, 3, 4, 8"; "The first node in the order with a free page grants"
+-- "Order: request 1, 2, 3, 4", 14, "8"; the first node in the order that is counted above 0 grants
 unfoldable pub requestDecision : Machine → Tables → ℕ → ℕ → Decision Change
-requestDecision m t j k = then (admitted m t j k) (λ r. serve (m .pageCounts) t j (chosen (m .pageCounts) (t .ledger) (orderOf m t j k)))
+requestDecision m t j k = then (admitted m t j k) (λ r. serve (m .pageCounts) t j (chosen (t .free) (orderOf m t j k)))
 
--- "release 1, 2, 10"; "a release [writes] 0"
+-- "release 1, 2, 10"; M-100: "In a release 14 stands last"; "a release [writes] 0"
 unfoldable pub releaseDecision : List ℕ → Tables → ℕ → ℕ → Decision Change
 releaseDecision counts t j p =
     unless (releaseTablesOk counts t) 1
     (unless (isJob (t .records) j) 2
     (unless (holds counts (t .ledger) j p) 10
-    (accept (freeing counts p))))
+    (unless (countFits counts (t .free) (nodeOfPage counts p)) 14
+    (accept (freeing counts (t .free) p)))))
+
+-- M-100: the fresh table "can be refused only 1"
+unfoldable pub freshDecision : List ℕ → Tables → Decision Change
+freshDecision counts t = unless (freshTablesOk counts (length (t .ledger)) (length (t .free))) 1 (accept (freeingAll counts))
 
 -- "install 1, 2, 4, 5, 7, 6"
 unfoldable pub installDecision : ℕ → List ℕ → ℕ → Policy → Decision Change
@@ -221,6 +272,9 @@ onRequest m t j k = applied t (requestDecision m t j k)
 unfoldable pub onRelease : List ℕ → Tables → ℕ → ℕ → Outcome
 onRelease counts t j p = applied t (releaseDecision counts t j p)
 
+unfoldable pub onFresh : List ℕ → Tables → Outcome
+onFresh counts t = applied t (freshDecision counts t)
+
 unfoldable pub onInstall : ℕ → Tables → ℕ → Policy → Outcome
 onInstall n t j p = applied t (installDecision n (t .records) j p)
 
@@ -232,7 +286,7 @@ onClear n t j = applied t (clearDecision n (t .records) j)
 
 -- for a proof that computes: `unfolding openCalls` opens every definition of this file
 unfoldable pub openCalls : Unit {0}
-unfolding numbers afterWrites afterStores applied requestTablesOk releaseTablesOk recordTablesOk flagFits policyKnown maskFits policyFits rebindFits
-    holds admitted limitOf orderOf serve requestDecision releaseDecision installDecision rebindDecision clearDecision onRequest
-    onRelease onInstall onRebind onClear
+unfolding numbers afterWrites afterStores applied requestTablesOk freshTablesOk releaseTablesOk recordTablesOk flagFits policyKnown
+    maskFits policyFits rebindFits holds countFits admitted limitOf orderOf serve requestDecision releaseDecision freshDecision installDecision
+    rebindDecision clearDecision onRequest onRelease onFresh onInstall onRebind onClear
 openCalls = tt

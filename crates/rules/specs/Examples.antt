@@ -9,7 +9,7 @@ use Rattle.rules.specs.Machine.{openMachine, Machine}
 use Rattle.rules.specs.Masks.{openMasks, mostNodes, maskOf}
 use Rattle.rules.specs.Records.{openRecords, wordsPerJob, recordAt, policy}
 use Rattle.rules.specs.SearchOrder.{openSearchOrder}
-use Rattle.rules.specs.Calls.{openCalls, Answer, granted, done, refused, Tables, orderOf, numbers}
+use Rattle.rules.specs.Calls.{openCalls, Answer, granted, done, refused, Tables, tablesOf, orderOf, numbers}
 use Rattle.rules.specs.Book.{openBook, Call, request, install, rebind, answers, final}
 
 -- "Machine A: pages 2,2,0,2; CPU k of 8 on node k/2 rounded down; distances .."
@@ -28,9 +28,9 @@ machineA = record {
 abbrev pub tenNodes : Machine
 tenNodes = record { pageCounts = replicate 10 0; cpuNodes = []; distances = [] }
 
--- "all pages free", and one fresh job
+-- "all pages free", and so counted, and one fresh job
 abbrev pub start : Machine → Tables
-start m = record { ledger = replicate (sum (m .pageCounts)) 0; records = replicate wordsPerJob 0 }
+start m = tablesOf (replicate (sum (m .pageCounts)) 0) (replicate wordsPerJob 0) (m .pageCounts)
 
 -- the mask of some node numbers
 abbrev pub nodes : List ℕ → ℕ

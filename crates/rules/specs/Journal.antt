@@ -8,7 +8,7 @@ use Rattle.rules.specs.Basics.{from, sum, between, allAt}
 use Rattle.rules.specs.Machine.{Machine, machineOk}
 use Rattle.rules.specs.Records.{bytesOf, fromBytes, wordsPerJob, placesPerJob, mostJobs, policy}
 use Rattle.rules.specs.Decisions.{Decision, refuse, accept, unless, then, decided, Written, written}
-use Rattle.rules.specs.Calls.{Tables, refused, numbers}
+use Rattle.rules.specs.Calls.{Tables, tablesOf, refused, numbers}
 use Rattle.rules.specs.Book.{Call, request, release, install, rebind, clear, step}
 
 -- byte k, k-th of n bytes on, and these as a number; "numbers little-endian"
@@ -59,9 +59,9 @@ machineIn bs = record {
 abbrev pub journalPages : ℕ
 journalPages = 16384
 
--- "64 fresh jobs"
+-- "64 fresh jobs"; every page is free, and so counted
 unfoldable pub startOf : Machine → Tables
-startOf m = record { ledger = replicate (sum (m .pageCounts)) 0; records = replicate (wordsPerJob * mostJobs) 0 }
+startOf m = tablesOf (replicate (sum (m .pageCounts)) 0) (replicate (wordsPerJob * mostJobs) 0) (m .pageCounts)
 
 -- "kind (1 request, 2 release, 3 rebind, 4 install, 5 clear)"
 pub data Kind : Type 0 where

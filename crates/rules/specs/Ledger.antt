@@ -27,7 +27,7 @@ lastElse o (x ∷ xs) = lastElse (some x) xs
 
 -- "the last step that granted or released it": the last write at page p, if there is one
 unfoldable pub lastWrite : Machine → Tables → List Call → ℕ → Option Write
-lastWrite m t cs p = lastElse none (keep (λ w. eqb (w .page) p) (writes m t cs))
+lastWrite m t cs p = lastElse none (keep (λ w. eqb (w .at) p) (writes m t cs))
 
 -- "0 is free, j + 1 is held by job j": the job that a byte gives a page to
 unfoldable pub holder : ℕ → Option ℕ
@@ -37,7 +37,7 @@ holder (suc j) = some j
 -- "gave it to that job"
 unfoldable pub givenTo : Option Write → Option ℕ
 givenTo none = none
-givenTo (some w) = holder (w .byte)
+givenTo (some w) = holder (w .value)
 
 -- for a proof that computes: `unfolding openLedger` opens every definition of this file
 unfoldable pub openLedger : Unit {0}

@@ -6,9 +6,11 @@ pub mod SearchOrder
 pub mod Decisions
 pub mod Calls
 pub mod Book
+pub mod FreeCounts
 pub mod Ledger
 pub mod Text
 pub mod Journal
 pub mod Answers
 pub mod Examples
 pub mod MoreExamples
+pub mod CountExamples

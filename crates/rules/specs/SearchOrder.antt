@@ -94,11 +94,16 @@ hasRoom counts ledger n = not (isNil (freePages counts ledger n))
 unfoldable pub pickPage : List ℕ → List ℕ → ℕ → ℕ → ℕ
 pickPage counts ledger j n = firstOr (freePages counts ledger n) 0
 
--- "The first node in the order with a free page"
-unfoldable pub chosen : List ℕ → List ℕ → List Try → Option Try
-chosen counts ledger ts = first (keep (λ t. hasRoom counts ledger (t .node)) ts)
+-- M-100: "Keep one 32-bit free count per node": node n is counted above 0
+unfoldable pub counted : List ℕ → ℕ → Bool
+counted free n = ltb 0 (getD free n 0)
+
+-- M-100: "let requests pass over nodes counted 0": the first node in the order that is counted above 0
+unfoldable pub chosen : List ℕ → List Try → Option Try
+chosen free ts = first (keep (λ t. counted free (t .node)) ts)
 
 -- for a proof that computes: `unfolding openSearchOrder` opens every definition of this file
 unfoldable pub openSearchOrder : Unit {0}
-unfolding others atDistance near nodeAt ringTries target interleaved planIn modeInForce plan tried order freePages hasRoom pickPage chosen
+unfolding others atDistance near nodeAt ringTries target interleaved planIn modeInForce plan tried order freePages hasRoom pickPage
+    counted chosen
 openSearchOrder = tt

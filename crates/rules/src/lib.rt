@@ -26,7 +26,7 @@ const NO_NODE: u8 = 0xFF;
 
 const NO_PAGE: u32 = 0xFFFF_FFFF;
 
-// Why a call was refused: document 01, "Refusal numbers", from 1 on.
+// Why a call was refused: document 01, "Refusal numbers", from 1 on; 14 is of request M-100.
 pub enum Refusal {
     BadTables,
     NoSuchJob,
@@ -41,6 +41,7 @@ pub enum Refusal {
     OutputTooShort,
     BadText,
     DamagedJournal,
+    WrongCount,
 }
 
 // What a call answers.
@@ -91,6 +92,7 @@ impl Refusal {
             Refusal::OutputTooShort => 11,
             Refusal::BadText => 12,
             Refusal::DamagedJournal => 13,
+            Refusal::WrongCount => 14,
         }
     }
 }

@@ -1,11 +1,10 @@
 // The library for hosts in C and Rust: each public call, with its answer in numbers.
 
 ghost use mathlib.Core.Path.{_≡_};
-ghost use mathlib.Core.List.{List};
 ghost use Prim.Native.Nat.{ℕ};
 ghost use lib.ListN.{replicate};
 ghost use Rattle.rules.specs.Answers.{numbersIn, numberIn, inNumbers, told, toldOf};
-ghost use Rattle.rules.specs.Calls.{tablesOf, onRequest, onRelease, onInstall, onRebind, onClear};
+ghost use Rattle.rules.specs.Calls.{Tables, tablesOf, withRecords, withPages, onRequest, onRelease, onFresh, onInstall, onRebind, onClear};
 ghost use Rattle.rules.specs.Journal.{writeJournal};
 ghost use Rattle.rules.specs.Records.{policy};
 ghost use Rattle.rules.specs.Text.{readText, writeText};
@@ -30,12 +29,13 @@ pub extern "C" fn spire_request(
     distances: &[u8],
     pages: &mut [u8],
     jobs: &mut [u64],
+    free: &mut [u32],
     job: usize,
     cpu: usize,
 ) -> Numbers
-    ensures { λ r. ⌜ told (numbersIn r) (tablesOf (now (pages .exit)) (now (jobs .exit))) ≡ toldOf (onRequest (machineOf (now (counts .entry)) (now (cpus .entry)) (now (distances .entry))) (tablesOf (now (pages .entry)) (now (jobs .entry))) job cpu) ⌝ }
+    ensures { λ r. ⌜ told (numbersIn r) (tablesOf (now (pages .exit)) (now (jobs .exit)) (now (free .exit))) ≡ toldOf (onRequest (machineOf (now (counts .entry)) (now (cpus .entry)) (now (distances .entry))) (tablesOf (now (pages .entry)) (now (jobs .entry)) (now (free .entry))) job cpu) ⌝ }
 {
-    placement::request(counts, cpus, distances, pages, jobs, job, cpu).numbers()
+    placement::request(counts, cpus, distances, pages, jobs, free, job, cpu).numbers()
 }
 
 // A page given back by its job.
@@ -44,12 +44,21 @@ pub extern "C" fn spire_release(
     counts: &[u32],
     pages: &mut [u8],
     jobs: &[u64],
+    free: &mut [u32],
     job: usize,
     page: usize,
 ) -> Numbers
-    ensures { λ r. ⌜ told (numbersIn r) (tablesOf (now (pages .exit)) (now (jobs .entry))) ≡ toldOf (onRelease (now (counts .entry)) (tablesOf (now (pages .entry)) (now (jobs .entry))) job page) ⌝ }
+    ensures { λ r. ⌜ told (numbersIn r) (tablesOf (now (pages .exit)) (now (jobs .entry)) (now (free .exit))) ≡ toldOf (onRelease (now (counts .entry)) (tablesOf (now (pages .entry)) (now (jobs .entry)) (now (free .entry))) job page) ⌝ }
 {
-    placement::release(counts, pages, jobs, job, page).numbers()
+    placement::release(counts, pages, jobs, free, job, page).numbers()
+}
+
+// Every page of the machine made free, and the free counts made.
+#[no_mangle]
+pub extern "C" fn spire_fresh(counts: &[u32], pages: &mut [u8], free: &mut [u32]) -> Numbers
+    ensures { λ r. ⌜ ((t : Tables) → told (numbersIn r) (withPages t (now (pages .exit)) (now (free .exit))) ≡ toldOf (onFresh (now (counts .entry)) (withPages t (now (pages .entry)) (now (free .entry))))) ⌝ }
+{
+    placement::fresh(counts, pages, free).numbers()
 }
 
 // A job's policy: its mode, flag, user mask or places.
@@ -63,7 +72,7 @@ pub extern "C" fn spire_install(
     mask: u64,
     places: &[u8],
 ) -> Numbers
-    ensures { λ r. ⌜ ((ledger : List ℕ) → told (numbersIn r) (tablesOf ledger (now (jobs .exit))) ≡ toldOf (onInstall nodes (tablesOf ledger (now (jobs .entry))) job (policy mode flag mask (now (places .entry))))) ⌝ }
+    ensures { λ r. ⌜ ((t : Tables) → told (numbersIn r) (withRecords t (now (jobs .exit))) ≡ toldOf (onInstall nodes (withRecords t (now (jobs .entry))) job (policy mode flag mask (now (places .entry))))) ⌝ }
 {
     records::install(nodes, jobs, job, mode, flag, mask, places).numbers()
 }
@@ -71,7 +80,7 @@ pub extern "C" fn spire_install(
 // A job's allowed nodes.
 #[no_mangle]
 pub extern "C" fn spire_rebind(nodes: usize, jobs: &mut [u64], job: usize, allowed: u64) -> Numbers
-    ensures { λ r. ⌜ ((ledger : List ℕ) → told (numbersIn r) (tablesOf ledger (now (jobs .exit))) ≡ toldOf (onRebind nodes (tablesOf ledger (now (jobs .entry))) job allowed)) ⌝ }
+    ensures { λ r. ⌜ ((t : Tables) → told (numbersIn r) (withRecords t (now (jobs .exit))) ≡ toldOf (onRebind nodes (withRecords t (now (jobs .entry))) job allowed)) ⌝ }
 {
     records::rebind(nodes, jobs, job, allowed).numbers()
 }
@@ -79,7 +88,7 @@ pub extern "C" fn spire_rebind(nodes: usize, jobs: &mut [u64], job: usize, allow
 // A job's record made fresh.
 #[no_mangle]
 pub extern "C" fn spire_clear(nodes: usize, jobs: &mut [u64], job: usize) -> Numbers
-    ensures { λ r. ⌜ ((ledger : List ℕ) → told (numbersIn r) (tablesOf ledger (now (jobs .exit))) ≡ toldOf (onClear nodes (tablesOf ledger (now (jobs .entry))) job)) ⌝ }
+    ensures { λ r. ⌜ ((t : Tables) → told (numbersIn r) (withRecords t (now (jobs .exit))) ≡ toldOf (onClear nodes (withRecords t (now (jobs .entry))) job)) ⌝ }
 {
     records::clear(nodes, jobs, job).numbers()
 }
@@ -108,14 +117,15 @@ pub extern "C" fn spire_replay(
     distances: &[u8],
     pages: &mut [u8],
     jobs: &mut [u64],
+    free: &mut [u32],
     calls: &[u64],
     answers: &mut [u64],
 ) -> Number
-    ensures ran { λ r. ⌜ toldRun (numberIn r) (tablesOf (now (pages .exit)) (now (jobs .exit))) (now (answers .exit)) ≡ toldReplay (onReplay (machineOf (now (counts .entry)) (now (cpus .entry)) (now (distances .entry))) (tablesOf (now (pages .entry)) (now (jobs .entry))) (now (calls .entry)) (now (answers .entry))) ⌝ }
-    ensures fair { λ r. ⌜ Demand3 (machineOf (now (counts .entry)) (now (cpus .entry)) (now (distances .entry))) (tablesOf (now (pages .entry)) (now (jobs .entry))) (callsIn (now (calls .entry))) ⌝ }
-    ensures ledger { λ r. ⌜ ((k : ℕ) → now (pages .entry) ≡ replicate k 0 → r .refusal ≡ 0 → Belongs (machineOf (now (counts .entry)) (now (cpus .entry)) (now (distances .entry))) (tablesOf (now (pages .entry)) (now (jobs .entry))) (callsIn (now (calls .entry))) (now (pages .exit))) ⌝ }
+    ensures ran { λ r. ⌜ toldRun (numberIn r) (tablesOf (now (pages .exit)) (now (jobs .exit)) (now (free .exit))) (now (answers .exit)) ≡ toldReplay (onReplay (machineOf (now (counts .entry)) (now (cpus .entry)) (now (distances .entry))) (tablesOf (now (pages .entry)) (now (jobs .entry)) (now (free .entry))) (now (calls .entry)) (now (answers .entry))) ⌝ }
+    ensures fair { λ r. ⌜ Demand3 (machineOf (now (counts .entry)) (now (cpus .entry)) (now (distances .entry))) (tablesOf (now (pages .entry)) (now (jobs .entry)) (now (free .entry))) (callsIn (now (calls .entry))) ⌝ }
+    ensures ledger { λ r. ⌜ ((k : ℕ) → now (pages .entry) ≡ replicate k 0 → r .refusal ≡ 0 → Belongs (machineOf (now (counts .entry)) (now (cpus .entry)) (now (distances .entry))) (tablesOf (now (pages .entry)) (now (jobs .entry)) (now (free .entry))) (callsIn (now (calls .entry))) (now (pages .exit))) ⌝ }
 {
-    replay::replay(counts, cpus, distances, pages, jobs, calls, answers).number()
+    replay::replay(counts, cpus, distances, pages, jobs, free, calls, answers).number()
 }
 
 // A whole journal; its answers at the start of the output, and their length.

@@ -16,10 +16,11 @@ fn nodes(pages: &[u8]) -> [String; 4] {
     COUNTS.map(|count| marks.by_ref().take(count as usize).collect())
 }
 
-/// The tenants' tables, and the story so far.
+/// The tenants' tables, the free pages of each node, and the story so far.
 struct House {
     pages: [u8; 6],
     jobs: [u64; 3 * JOB_WORDS],
+    free: [u32; 4],
     story: String,
 }
 
@@ -34,6 +35,12 @@ impl House {
         };
         let nodes = nodes(&self.pages).join("|");
         self.story.push_str(&format!("{asked:<40} |{nodes}|  {words}\n"));
+    }
+
+    /// Frees all pages and counts them.
+    fn open(&mut self) {
+        let answer = spirerivet::fresh(&COUNTS, &mut self.pages, &mut self.free);
+        self.tell("the house opens", answer);
     }
 
     /// Lets a tenant use the nodes of a list.
@@ -51,13 +58,14 @@ impl House {
 
     /// A tenant's program needs a page on a CPU.
     fn need(&mut self, job: usize, cpu: usize) {
-        let answer = spirerivet::request(&COUNTS, &CPUS, &DISTANCES, &mut self.pages, &mut self.jobs, job, cpu);
+        let House { pages, jobs, free, .. } = self;
+        let answer = spirerivet::request(&COUNTS, &CPUS, &DISTANCES, pages, jobs, free, job, cpu);
         self.tell(&format!("tenant {job} needs a page on CPU {cpu}"), answer);
     }
 
     /// A tenant gives a page back.
     fn give_back(&mut self, job: usize, page: usize) {
-        let answer = spirerivet::release(&COUNTS, &mut self.pages, &self.jobs, job, page);
+        let answer = spirerivet::release(&COUNTS, &mut self.pages, &self.jobs, &mut self.free, job, page);
         self.tell(&format!("tenant {job} gives page {page} back"), answer);
     }
 
@@ -70,7 +78,8 @@ impl House {
 
 /// The whole story.
 pub fn story() -> String {
-    let mut house = House { pages: [0; 6], jobs: [0; 3 * JOB_WORDS], story: String::new() };
+    let mut house = House { pages: [0; 6], jobs: [0; 3 * JOB_WORDS], free: [0; 4], story: String::new() };
+    house.open();
     house.rent(0, "0-3");
     house.policy(0, "turns over 3, 3, 1", mode::RING, flag::NONE, 0, &[3, 3, 1]);
     house.need(0, 0);
@@ -89,8 +98,8 @@ pub fn story() -> String {
     house.leave(2);
     house.give_back(2, 3);
     for (node, marks) in nodes(&house.pages).iter().enumerate() {
-        let held = marks.len() - marks.matches('.').count();
-        house.story.push_str(&format!("node {node:2}  {held} of {} held  |{marks}|\n", marks.len()));
+        let (free, all) = (house.free[node], COUNTS[node]);
+        house.story.push_str(&format!("node {node:2}  {free} of {all} free  |{marks}|\n"));
     }
     house.story
 }

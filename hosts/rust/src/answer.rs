@@ -11,7 +11,7 @@ pub enum Answer {
     Refused(Refusal),
 }
 
-/// Document 01's refusals, in the order of their numbers.
+/// Document 01's refusals, as amended to date, in the order of their numbers.
 #[derive(Clone, Copy, Debug, PartialEq, Eq, PartialOrd, Ord, Hash)]
 #[repr(u8)]
 pub enum Refusal {
@@ -28,11 +28,14 @@ pub enum Refusal {
     OutputTooShort,
     BadText,
     DamagedJournal,
+    /// A free count disagrees with the page table: a node counted above 0 has no free page, or a release would count more
+    /// free pages than its node has. Count the free pages of each node anew, or call `fresh` when no page is in use.
+    WrongCount,
 }
 
 impl Refusal {
     /// Every refusal there is.
-    pub const ALL: [Refusal; 13] = [
+    pub const ALL: [Refusal; 14] = [
         Refusal::BadTables,
         Refusal::NoSuchJob,
         Refusal::NoSuchCpu,
@@ -46,9 +49,10 @@ impl Refusal {
         Refusal::OutputTooShort,
         Refusal::BadText,
         Refusal::DamagedJournal,
+        Refusal::WrongCount,
     ];
 
-    /// Its number in document 01.
+    /// Its number in the papers.
     pub fn number(self) -> u8 {
         self as u8
     }
@@ -70,12 +74,12 @@ mod tests {
     use super::*;
 
     #[test]
-    fn numbers_go_from_1_to_13() {
+    fn numbers_go_from_1_to_14() {
         for (index, refusal) in Refusal::ALL.into_iter().enumerate() {
             assert_eq!(usize::from(refusal.number()), index + 1);
             assert_eq!(Refusal::of_number(refusal.number()), Some(refusal));
         }
         assert_eq!(Refusal::of_number(0), None);
-        assert_eq!(Refusal::of_number(14), None);
+        assert_eq!(Refusal::of_number(15), None);
     }
 }

@@ -11,7 +11,7 @@ pub const NO_PAGE: u32 = u32::MAX;
 pub fn refusal_of(number: u8) -> Refusal {
     match Refusal::of_number(number) {
         Some(refusal) => refusal,
-        None => panic!("the library answered refusal {number}, which document 01 does not have"),
+        None => panic!("the library answered refusal {number}, which the papers do not have"),
     }
 }
 
@@ -39,23 +39,30 @@ fn number(raw: HostNumber) -> Result<u64, Refusal> {
     Err(refusal_of(raw.refusal))
 }
 
-/// Takes one page for a job, by its record's search order as seen from a CPU.
+/// Takes one page for a job, by its record's search order as seen from a CPU. `free` has the number of free pages of each
+/// node and is kept up; nodes counted 0 are passed over.
 pub fn request(
     counts: &[u32],
     cpus: &[u8],
     distances: &[u8],
     pages: &mut [u8],
     jobs: &mut [u64],
+    free: &mut [u32],
     job: usize,
     cpu: usize,
 ) -> Answer {
-    let raw = ffi::request(counts, cpus, distances, pages, jobs, job, cpu);
+    let raw = ffi::request(counts, cpus, distances, pages, jobs, free, job, cpu);
     answer(raw, |node, page| Answer::Granted { node, page })
 }
 
-/// Gives a page back that the job holds.
-pub fn release(counts: &[u32], pages: &mut [u8], jobs: &[u64], job: usize, page: usize) -> Answer {
-    answer(ffi::release(counts, pages, jobs, job, page), |node, page| Answer::Released { node, page })
+/// Gives a page back that the job holds; `free` is kept up.
+pub fn release(counts: &[u32], pages: &mut [u8], jobs: &[u64], free: &mut [u32], job: usize, page: usize) -> Answer {
+    answer(ffi::release(counts, pages, jobs, free, job, page), |node, page| Answer::Released { node, page })
+}
+
+/// Frees every page of the machine and makes its free counts: what a host begins with. Bytes past the last page stay.
+pub fn fresh(counts: &[u32], pages: &mut [u8], free: &mut [u32]) -> Answer {
+    answer(ffi::fresh(counts, pages, free), done)
 }
 
 /// Sets a job's policy: a mode of `mode`, a flag of `flag`, a user mask or places.
@@ -91,10 +98,11 @@ pub fn replay(
     distances: &[u8],
     pages: &mut [u8],
     jobs: &mut [u64],
+    free: &mut [u32],
     calls: &[u64],
     answers: &mut [u64],
 ) -> Result<usize, Refusal> {
-    number(ffi::replay(counts, cpus, distances, pages, jobs, calls, answers)).map(|ran| ran as usize)
+    number(ffi::replay(counts, cpus, distances, pages, jobs, free, calls, answers)).map(|ran| ran as usize)
 }
 
 /// Runs a whole journal and writes its answers, 12 bytes each; gives their length. Refused 11 exactly when the output is

@@ -26,11 +26,15 @@ extern "C" {
     fn spire_request(
         counts: *const u32, counts_len: usize, cpus: *const u8, cpus_len: usize,
         distances: *const u8, distances_len: usize, pages: *mut u8, pages_len: usize,
-        jobs: *mut u64, jobs_len: usize, job: usize, cpu: usize,
+        jobs: *mut u64, jobs_len: usize, free: *mut u32, free_len: usize, job: usize, cpu: usize,
     ) -> HostAnswer;
     fn spire_release(
         counts: *const u32, counts_len: usize, pages: *mut u8, pages_len: usize,
-        jobs: *const u64, jobs_len: usize, job: usize, page: usize,
+        jobs: *const u64, jobs_len: usize, free: *mut u32, free_len: usize, job: usize, page: usize,
+    ) -> HostAnswer;
+    fn spire_fresh(
+        counts: *const u32, counts_len: usize, pages: *mut u8, pages_len: usize,
+        free: *mut u32, free_len: usize,
     ) -> HostAnswer;
     fn spire_install(
         nodes: usize, jobs: *mut u64, jobs_len: usize, job: usize,
@@ -43,29 +47,42 @@ extern "C" {
     fn spire_replay(
         counts: *const u32, counts_len: usize, cpus: *const u8, cpus_len: usize,
         distances: *const u8, distances_len: usize, pages: *mut u8, pages_len: usize,
-        jobs: *mut u64, jobs_len: usize, calls: *const u64, calls_len: usize,
-        answers: *mut u64, answers_len: usize,
+        jobs: *mut u64, jobs_len: usize, free: *mut u32, free_len: usize,
+        calls: *const u64, calls_len: usize, answers: *mut u64, answers_len: usize,
     ) -> HostNumber;
     fn spire_journal(input: *const u8, input_len: usize, output: *mut u8, output_len: usize) -> HostNumber;
 }
 
 #[rustfmt::skip]
 pub fn request(
-    counts: &[u32], cpus: &[u8], distances: &[u8], pages: &mut [u8], jobs: &mut [u64], job: usize, cpu: usize,
+    counts: &[u32], cpus: &[u8], distances: &[u8], pages: &mut [u8], jobs: &mut [u64], free: &mut [u32],
+    job: usize, cpu: usize,
 ) -> HostAnswer {
     unsafe {
         spire_request(
             counts.as_ptr(), counts.len(), cpus.as_ptr(), cpus.len(), distances.as_ptr(), distances.len(),
-            pages.as_mut_ptr(), pages.len(), jobs.as_mut_ptr(), jobs.len(), job, cpu,
+            pages.as_mut_ptr(), pages.len(), jobs.as_mut_ptr(), jobs.len(), free.as_mut_ptr(), free.len(), job, cpu,
         )
     }
 }
 
 #[rustfmt::skip]
-pub fn release(counts: &[u32], pages: &mut [u8], jobs: &[u64], job: usize, page: usize) -> HostAnswer {
+pub fn release(
+    counts: &[u32], pages: &mut [u8], jobs: &[u64], free: &mut [u32], job: usize, page: usize,
+) -> HostAnswer {
     unsafe {
         spire_release(
-            counts.as_ptr(), counts.len(), pages.as_mut_ptr(), pages.len(), jobs.as_ptr(), jobs.len(), job, page,
+            counts.as_ptr(), counts.len(), pages.as_mut_ptr(), pages.len(), jobs.as_ptr(), jobs.len(),
+            free.as_mut_ptr(), free.len(), job, page,
+        )
+    }
+}
+
+#[rustfmt::skip]
+pub fn fresh(counts: &[u32], pages: &mut [u8], free: &mut [u32]) -> HostAnswer {
+    unsafe {
+        spire_fresh(
+            counts.as_ptr(), counts.len(), pages.as_mut_ptr(), pages.len(), free.as_mut_ptr(), free.len(),
         )
     }
 }
@@ -99,14 +116,14 @@ pub fn write_nodes(nodes: usize, mask: u64, out: &mut [u8]) -> HostNumber {
 
 #[rustfmt::skip]
 pub fn replay(
-    counts: &[u32], cpus: &[u8], distances: &[u8], pages: &mut [u8], jobs: &mut [u64],
+    counts: &[u32], cpus: &[u8], distances: &[u8], pages: &mut [u8], jobs: &mut [u64], free: &mut [u32],
     calls: &[u64], answers: &mut [u64],
 ) -> HostNumber {
     unsafe {
         spire_replay(
             counts.as_ptr(), counts.len(), cpus.as_ptr(), cpus.len(), distances.as_ptr(), distances.len(),
-            pages.as_mut_ptr(), pages.len(), jobs.as_mut_ptr(), jobs.len(), calls.as_ptr(), calls.len(),
-            answers.as_mut_ptr(), answers.len(),
+            pages.as_mut_ptr(), pages.len(), jobs.as_mut_ptr(), jobs.len(), free.as_mut_ptr(), free.len(),
+            calls.as_ptr(), calls.len(), answers.as_mut_ptr(), answers.len(),
         )
     }
 }

@@ -1,8 +1,9 @@
 //! The proved memory placer for Rust hosts.
 //!
 //! A thin, safe layer over libspirerivet.a. Tables are lent as slices, laid
-//! out as document 01 says; every call gives its answer or one numbered
-//! refusal, and a refused call changes nothing that it was lent.
+//! out as document 01 says, with a count of free pages for each node; every
+//! call gives its answer or one numbered refusal, and a refused call changes
+//! nothing that it was lent.
 
 #![deny(unsafe_code)]
 
@@ -12,7 +13,7 @@ mod ffi;
 mod list;
 
 pub use answer::{Answer, Refusal};
-pub use calls::{clear, install, journal, read_nodes, rebind, release, replay, request, write_nodes};
+pub use calls::{clear, fresh, install, journal, read_nodes, rebind, release, replay, request, write_nodes};
 pub use list::{answer_of, words_of, Call, CALL_WORDS, MOST_CALL_PLACES};
 
 /// The words of a job in the job table.

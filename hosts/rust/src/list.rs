@@ -16,6 +16,7 @@ pub enum Call<'a> {
     Rebind { job: u64, allowed: u64 },
     Install { job: u64, mode: u64, flag: u64, mask: u64, places: &'a [u8] },
     Clear { job: u64 },
+    Fresh,
 }
 
 /// The sixteen words of a call. An install may have any number of places: word 5 has the number, words 8 to 15 the first
@@ -33,6 +34,7 @@ pub fn words_of(call: &Call) -> [u64; CALL_WORDS] {
             }
         }
         Call::Clear { job } => words[..2].copy_from_slice(&[5, job]),
+        Call::Fresh => words[0] = 16,
     }
     words
 }
@@ -65,6 +67,7 @@ mod tests {
         assert_eq!(words(Call::Release { job: 7, page: 1 << 40 })[..4], [2, 7, 1 << 40, 0]);
         assert_eq!(words(Call::Rebind { job: 7, allowed: u64::MAX })[..4], [3, 7, u64::MAX, 0]);
         assert_eq!(words(Call::Clear { job: 63 })[..4], [5, 63, 0, 0]);
+        assert_eq!(words(Call::Fresh), [16, 0, 0, 0, 0, 0, 0, 0, 0, 0, 0, 0, 0, 0, 0, 0]);
         let places: Vec<u8> = (1..=64).collect();
         let call = words(Call::Install { job: 1, mode: 5, flag: 2, mask: 3, places: &places });
         assert_eq!(call[..9], [4, 1, 5, 2, 3, 64, 0, 0, 0x0807_0605_0403_0201]);
@@ -91,7 +94,10 @@ mod tests {
         assert_eq!(answer_of(&Call::Release { job: 0, page: 5 }, word), Answer::Released { node: 3, page: 5 });
         let done = 0xFFFF_FFFF_0000_FF00;
         assert_eq!(answer_of(&Call::Clear { job: 0 }, done), Answer::Done);
+        assert_eq!(answer_of(&Call::Fresh, done), Answer::Done);
         let refused = Answer::Refused(Refusal::NoRoom);
         assert_eq!(answer_of(&Call::Request { job: 0, cpu: 0 }, done | 8), refused);
+        let wrong_count = Answer::Refused(Refusal::WrongCount);
+        assert_eq!(answer_of(&Call::Release { job: 0, page: 5 }, done | 14), wrong_count);
     }
 }

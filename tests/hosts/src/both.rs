@@ -4,6 +4,7 @@ use reference::calls::{apply_with, Answer, Call, Tables};
 use reference::machine::all_pages;
 
 use crate::lent::LentTables;
+use crate::NUMBERS;
 
 /// The library's answer in the second implementation's words.
 fn in_reference_words(answer: spirerivet::Answer) -> Answer {
@@ -17,19 +18,27 @@ fn in_reference_words(answer: spirerivet::Answer) -> Answer {
 
 /// One call by the library.
 pub fn library_call(nodes: usize, lent: &mut LentTables, call: &Call) -> Answer {
-    let LentTables { counts, cpus, distances, pages, jobs } = lent;
-    let (pages, jobs) = (pages.now_mut(), jobs.now_mut());
+    let LentTables { counts, cpus, distances, pages, jobs, free } = lent;
+    let (counts, cpus, distances) = (counts.now(), cpus.now(), distances.now());
+    let (pages, jobs, free) = (pages.now_mut(), jobs.now_mut(), free.now_mut());
     in_reference_words(match call {
-        Call::Request { job, cpu } => {
-            spirerivet::request(counts.now(), cpus.now(), distances.now(), pages, jobs, *job, *cpu)
-        }
-        Call::Release { job, page } => spirerivet::release(counts.now(), pages, jobs, *job, *page),
+        Call::Request { job, cpu } => spirerivet::request(counts, cpus, distances, pages, jobs, free, *job, *cpu),
+        Call::Release { job, page } => spirerivet::release(counts, pages, jobs, free, *job, *page),
         Call::Install { job, mode, flag, mask, places } => {
             spirerivet::install(nodes, jobs, *job, *mode, *flag, *mask, places)
         }
         Call::Rebind { job, allowed } => spirerivet::rebind(nodes, jobs, *job, *allowed),
         Call::Clear { job } => spirerivet::clear(nodes, jobs, *job),
+        Call::Fresh => spirerivet::fresh(counts, pages, free),
     })
+}
+
+/// A list of calls by the library's replay.
+pub fn library_replay(lent: &mut LentTables, list: &[u64], answers: &mut [u64]) -> Result<usize, u8> {
+    let LentTables { counts, cpus, distances, pages, jobs, free } = lent;
+    let (counts, cpus, distances) = (counts.now(), cpus.now(), distances.now());
+    let (pages, jobs, free) = (pages.now_mut(), jobs.now_mut(), free.now_mut());
+    spirerivet::replay(counts, cpus, distances, pages, jobs, free, list, answers).map_err(|refusal| refusal.number())
 }
 
 /// What calls showed, so that a test can say it was not empty.
@@ -40,7 +49,7 @@ pub struct Seen {
     pub released: u64,
     pub done: u64,
     /// By refusal number.
-    pub refused: [u64; 14],
+    pub refused: [u64; NUMBERS],
 }
 
 impl Seen {

@@ -52,10 +52,11 @@ pub struct LentTables {
     pub distances: Lent<u8>,
     pub pages: Lent<u8>,
     pub jobs: Lent<u64>,
+    pub free: Lent<u32>,
 }
 
 impl LentTables {
-    /// The tables; marks are free pages, good nodes and fresh words, so that a read beside them shows too.
+    /// The tables; marks are free pages, good nodes, fresh words and counts above 0, so that a read beside them shows too.
     pub fn new(tables: &Tables) -> LentTables {
         LentTables {
             counts: Lent::new(&tables.counts, 1),
@@ -63,17 +64,19 @@ impl LentTables {
             distances: Lent::new(&tables.distances, 10),
             pages: Lent::new(&tables.pages, 0),
             jobs: Lent::new(&tables.jobs, 0),
+            free: Lent::new(&tables.free, 1),
         }
     }
 
     /// The name of a table that differs or was written beside, if there is one.
     pub fn difference(&self, tables: &Tables) -> Option<&'static str> {
         let same = [
-            ("counts", self.counts.is(&tables.counts)),
+            ("page counts", self.counts.is(&tables.counts)),
             ("cpus", self.cpus.is(&tables.cpus)),
             ("distances", self.distances.is(&tables.distances)),
             ("pages", self.pages.is(&tables.pages)),
             ("jobs", self.jobs.is(&tables.jobs)),
+            ("free counts", self.free.is(&tables.free)),
         ];
         same.into_iter().find(|(_, same)| !same).map(|(name, _)| name)
     }

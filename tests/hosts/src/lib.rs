@@ -3,6 +3,7 @@
 #![forbid(unsafe_code)]
 
 mod both;
+mod counts;
 mod journal;
 mod lent;
 mod list;
@@ -10,11 +11,15 @@ mod text;
 
 use std::ops::Range;
 
-pub use both::{library_call, Both, Seen};
+pub use both::{library_call, library_replay, Both, Seen};
+pub use counts::Shown;
 pub use journal::journal_by_both;
 pub use lent::{Lent, LentTables};
 pub use list::{answer_word, install_in, list_refusal, packed, words, RUBBISH};
 pub use text::{read_by_both, write_by_both};
+
+/// The numbers from 0, for no refusal, to the highest refusal.
+pub const NUMBERS: usize = spirerivet::Refusal::ALL.len() + 1;
 
 /// Seeds from 0; the environment variable HOSTS_TIMES makes a run so many times longer.
 pub fn seeds(how_many: u64) -> Range<u64> {

@@ -2,7 +2,7 @@
 
 use reference::calls::{Answer, Call, Tables};
 use reference::generate::Dice;
-use reference::machine::request_tables_fit;
+use reference::machine::{free_fits, request_tables_fit};
 
 /// What stands in answer cells that nothing may write.
 pub const RUBBISH: u64 = 0xA5A5_A5A5_A5A5_A5A5;
@@ -18,6 +18,7 @@ pub fn words(call: &Call) -> [u64; spirerivet::CALL_WORDS] {
             spirerivet::Call::Install { job: wide(job), mode: *mode, flag: *flag, mask: *mask, places }
         }
         Call::Clear { job } => spirerivet::Call::Clear { job: wide(job) },
+        Call::Fresh => spirerivet::Call::Fresh,
     })
 }
 
@@ -27,6 +28,7 @@ fn last_used(call: &Call) -> usize {
         Call::Request { .. } | Call::Release { .. } | Call::Rebind { .. } => 2,
         Call::Install { .. } => 5,
         Call::Clear { .. } => 1,
+        Call::Fresh => 0,
     }
 }
 
@@ -75,11 +77,11 @@ pub fn answer_word(answer: Answer) -> u64 {
 
 /// The refusal of a whole list: 1, 13, 11 in this order; 13 is for a list that is cut short and for an unknown kind alone.
 pub fn list_refusal(tables: &Tables, list: &[u64], room: usize) -> Option<u8> {
-    let Tables { counts, cpus, distances, pages, jobs } = tables;
-    if !request_tables_fit(counts, cpus, distances, pages, jobs) {
+    let Tables { counts, cpus, distances, pages, jobs, free } = tables;
+    if !request_tables_fit(counts, cpus, distances, pages, jobs) || !free_fits(counts, free) {
         return Some(1);
     }
-    if list.len() % 16 != 0 || list.chunks(16).any(|call| call[0] == 0 || call[0] > 5) {
+    if list.len() % 16 != 0 || list.chunks(16).any(|call| !matches!(call[0], 1..=5 | 16)) {
         return Some(13);
     }
     if room < list.len() / 16 {

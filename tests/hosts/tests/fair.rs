@@ -1,4 +1,4 @@
-//! Demand 3 by brute force, counted on the grants of the library's replays.
+//! Demand 3 by brute force, counted on the grants of the library's replays; the free counts match at the start (M-100).
 
 use hosts::{seeds, words};
 use reference::calls::{Call, Tables};
@@ -10,8 +10,8 @@ use reference::record::{read, RING};
 fn ask_replay(tables: &mut Tables, job: usize, cpu: usize) -> Option<Grant> {
     let call = words(&Call::Request { job, cpu });
     let mut answers = [0];
-    let Tables { counts, cpus, distances, pages, jobs } = tables;
-    spirerivet::replay(counts, cpus, distances, pages, jobs, &call, &mut answers).ok()?;
+    let Tables { counts, cpus, distances, pages, jobs, free } = tables;
+    spirerivet::replay(counts, cpus, distances, pages, jobs, free, &call, &mut answers).ok()?;
     match spirerivet::answer_of(&spirerivet::Call::Request { job: 0, cpu: 0 }, answers[0]) {
         spirerivet::Answer::Granted { node, page } => {
             let record = read(jobs, job);
@@ -35,14 +35,17 @@ fn fair(told: &str, start: &Tables, calls: &[Call], total: &mut Seen) {
 #[test]
 fn every_window_of_every_replay_is_fair() {
     let mut total = Seen::default();
+    let mut fresh = 0;
     for seed in seeds(150) {
         let (start, calls) = list(seed, 160);
+        fresh += calls.iter().filter(|call| **call == Call::Fresh).count();
         fair(&format!("list seed {seed}"), &start, &calls, &mut total);
     }
     for seed in seeds(60) {
         let (start, calls) = journal_parts(seed, 160);
         fair(&format!("journal seed {seed}"), &start, &calls, &mut total);
     }
-    println!("{total:?}");
+    println!("{total:?}, {fresh} fresh tables");
     assert!(total.grants > 3_000 && total.at_least > 3_000 && total.exact > 300, "{total:?}");
+    assert!(fresh > 100, "{fresh}");
 }

@@ -14,6 +14,9 @@ const MOST: Duration = Duration::from_secs(2);
 /// The quickest of them, which no other work on the machine slows down; reading all bytes takes five or more.
 const QUICKEST: Duration = Duration::from_millis(1);
 
+/// The answer of a call on tables that break the rules.
+const REFUSED: spirerivet::Answer = spirerivet::Answer::Refused(Refusal::BadTables);
+
 /// Makes a call twenty times and asserts that it is done at once.
 fn at_once(told: &str, mut call: impl FnMut()) {
     let mut took = Vec::new();
@@ -31,13 +34,14 @@ fn at_once(told: &str, mut call: impl FnMut()) {
 
 /// A request on these tables is refused 1 by both, at once, and changes nothing.
 fn request_refused(told: &str, tables: Tables) {
-    let Tables { counts, cpus, distances, mut pages, mut jobs } = tables;
+    let Tables { counts, cpus, distances, mut pages, mut jobs, mut free } = tables;
     let pages_before = pages.clone();
     let jobs_before = jobs.clone();
-    assert_eq!(request(&counts, &cpus, &distances, &mut pages, &mut jobs, 0, 0), Answer::Refused(1), "{told}");
+    let expected = request(&counts, &cpus, &distances, &mut pages, &mut jobs, &mut free, 0, 0);
+    assert_eq!(expected, Answer::Refused(1), "{told}");
     at_once(told, || {
-        let found = spirerivet::request(&counts, &cpus, &distances, &mut pages, &mut jobs, 0, 0);
-        assert_eq!(found, spirerivet::Answer::Refused(Refusal::BadTables), "{told}");
+        let found = spirerivet::request(&counts, &cpus, &distances, &mut pages, &mut jobs, &mut free, 0, 0);
+        assert_eq!(found, REFUSED, "{told}");
     });
     assert_eq!(pages, pages_before, "{told}");
     assert_eq!(jobs, jobs_before, "{told}");
@@ -50,20 +54,58 @@ fn a_huge_cpu_table_is_refused_at_once() {
 
 #[test]
 fn other_huge_tables_are_refused_at_once() {
-    request_refused("page counts", Tables { counts: vec![0; HUGE / 4], ..machine_a() });
+    request_refused("page counts", Tables { counts: vec![0; HUGE / 4], free: vec![0; HUGE / 4], ..machine_a() });
     request_refused("distances", Tables { distances: vec![0; HUGE], ..machine_a() });
 }
 
 #[test]
 fn a_huge_job_table_is_refused_at_once() {
-    let Tables { counts, cpus, distances, mut pages, .. } = machine_a();
+    let Tables { counts, cpus, distances, mut pages, mut free, .. } = machine_a();
     let mut jobs = vec![0; HUGE / 48 * 6];
     at_once("job table", || {
-        let found = spirerivet::request(&counts, &cpus, &distances, &mut pages, &mut jobs, 0, 0);
-        assert_eq!(found, spirerivet::Answer::Refused(Refusal::BadTables));
-        assert_eq!(spirerivet::clear(4, &mut jobs, 0), spirerivet::Answer::Refused(Refusal::BadTables));
+        let found = spirerivet::request(&counts, &cpus, &distances, &mut pages, &mut jobs, &mut free, 0, 0);
+        assert_eq!(found, REFUSED);
+        assert_eq!(spirerivet::release(&counts, &mut pages, &jobs, &mut free, 0, 0), REFUSED);
+        assert_eq!(spirerivet::clear(4, &mut jobs, 0), REFUSED);
     });
     assert_eq!(pages, [0; 6]);
+    assert_eq!(free, [2, 2, 0, 2]);
+}
+
+#[test]
+fn huge_free_counts_are_refused_at_once() {
+    let Tables { counts, cpus, distances, mut pages, mut jobs, .. } = machine_a();
+    let mut free = vec![0; HUGE / 4];
+    pages[0] = 1;
+    at_once("free counts", || {
+        let found = spirerivet::request(&counts, &cpus, &distances, &mut pages, &mut jobs, &mut free, 0, 0);
+        assert_eq!(found, REFUSED);
+        assert_eq!(spirerivet::release(&counts, &mut pages, &jobs, &mut free, 0, 0), REFUSED);
+        assert_eq!(spirerivet::fresh(&counts, &mut pages, &mut free), REFUSED);
+        let ran = spirerivet::replay(&counts, &cpus, &distances, &mut pages, &mut jobs, &mut free, &[], &mut []);
+        assert_eq!(ran, Err(Refusal::BadTables));
+    });
+    assert_eq!(pages, [1, 0, 0, 0, 0, 0]);
+    assert_eq!(jobs, machine_a().jobs);
+    assert!(free.iter().all(|count| *count == 0));
+}
+
+/// As many free counts as page counts, both far too many; and bytes far past the last page, which nothing looks at.
+#[test]
+fn a_fresh_table_is_refused_and_made_at_once() {
+    let mut pages = vec![0; HUGE];
+    pages[..8].fill(9);
+    let (counts, mut free) = (vec![0; HUGE / 4], vec![0; HUGE / 4]);
+    at_once("fresh table of far too many nodes", || {
+        assert_eq!(spirerivet::fresh(&counts, &mut pages, &mut free), REFUSED);
+    });
+    assert_eq!(pages[..8], [9; 8]);
+    let mut free = [0; 4];
+    at_once("fresh table in far too many bytes", || {
+        assert_eq!(spirerivet::fresh(&machine_a().counts, &mut pages, &mut free), spirerivet::Answer::Done);
+    });
+    assert_eq!(pages[..9], [0, 0, 0, 0, 0, 0, 9, 9, 0]);
+    assert_eq!(free, [2, 2, 0, 2]);
 }
 
 #[test]

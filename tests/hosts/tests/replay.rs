@@ -1,9 +1,11 @@
 //! `replay` against the second implementation's calls one by one.
 
-use hosts::{answer_word, install_in, list_refusal, packed, seeds, Lent, LentTables, RUBBISH};
-use reference::calls::{apply, Call, Tables};
+use hosts::{
+    answer_word, install_in, library_replay, list_refusal, packed, seeds, Lent, LentTables, Shown, NUMBERS, RUBBISH,
+};
+use reference::calls::{apply, apply_without_counts, Answer, Call, Tables};
 use reference::examples::machine_a;
-use reference::generate::{journal_parts, list, tables, Dice};
+use reference::generate::{journal_parts, list, put_counts, tables, Counts, Dice, SORTS_OF_COUNTS};
 
 /// Numbers of places over 16: the next one, those about 64, and such as are small when cut or shifted.
 const LONG: [u64; 16] =
@@ -21,18 +23,9 @@ fn run(start: &Tables, words: &[u64], room: usize) -> Run {
     let mut lent = LentTables::new(start);
     let calls = Lent::new(words, 1);
     let mut answers = Lent::new(&vec![RUBBISH; room], !RUBBISH);
-    let LentTables { counts, cpus, distances, pages, jobs } = &mut lent;
-    let outcome = spirerivet::replay(
-        counts.now(),
-        cpus.now(),
-        distances.now(),
-        pages.now_mut(),
-        jobs.now_mut(),
-        calls.now(),
-        answers.now_mut(),
-    );
+    let outcome = library_replay(&mut lent, calls.now(), answers.now_mut());
     assert!(calls.is(words), "the list of calls was changed");
-    Run { outcome: outcome.map_err(|refusal| refusal.number()), lent, answers }
+    Run { outcome, lent, answers }
 }
 
 /// What the run must leave: the answers and tables of the calls one by one, or all as it was.
@@ -88,13 +81,91 @@ fn a_replay_is_its_calls_one_by_one() {
     assert!(ran > 30_000, "{ran}");
 }
 
+/// "If the counts match the page table at entry, every call answers as before and they match afterwards" (M-100).
+#[test]
+fn with_matching_counts_a_replay_answers_as_before() {
+    let mut ran = 0;
+    for seed in seeds(120) {
+        for (told, start, calls) in lists(seed) {
+            let start = start.counted();
+            let words = packed(&mut Dice::new(seed), &calls);
+            if list_refusal(&start, &words, calls.len()).is_some() {
+                continue;
+            }
+            let Run { outcome, lent, answers } = run(&start, &words, calls.len());
+            assert_eq!(outcome, Ok(calls.len()), "{told}");
+            let mut before = start.clone();
+            for (turn, call) in calls.iter().enumerate() {
+                let answer = answer_word(apply_without_counts(start.counts.len(), &mut before, call));
+                assert_eq!(answers.now()[turn], answer, "{told}: answer {turn} of {call:?}");
+            }
+            assert_eq!(lent.difference(&before.counted()), None, "{told}");
+            ran += calls.len();
+        }
+    }
+    println!("{ran} calls replayed");
+    assert!(ran > 30_000, "{ran}");
+}
+
+#[test]
+fn replays_on_counts_of_every_sort() {
+    for sort in SORTS_OF_COUNTS {
+        let mut shown = Shown::default();
+        let (mut ran, mut refused) = (0, 0);
+        for seed in seeds(300) {
+            let mut dice = Dice::new(seed ^ 0xC0_4273);
+            let (mut start, calls) = list(seed, 30);
+            put_counts(&mut dice, &mut start, sort);
+            let words = packed(&mut dice, &calls);
+            match check(&format!("{sort:?} seed {seed}"), &start, &words, &calls, calls.len()) {
+                0 => refused += 1,
+                _ => ran += 1,
+            }
+            let mut tables = start.clone();
+            for call in &calls {
+                let before = tables.clone();
+                shown.enter(&before, call, apply(&mut tables, call));
+            }
+        }
+        println!("{sort:?}: {ran} lists ran, {refused} were refused 1; call by call {shown:?}");
+        let wrong_length = matches!(sort, Counts::TooFew | Counts::TooMany);
+        assert!(if wrong_length { ran == 0 } else { refused == 0 }, "{sort:?}: {ran} ran, {refused} refused");
+        assert!(shown.is_enough(sort), "{sort:?}: {shown:?}");
+    }
+}
+
+/// A list of one kind, all its other words rubbish, and what it must be: a fresh table, or 13.
+#[test]
+fn kind_16_is_a_fresh_table_and_reads_no_other_word() {
+    let (start, _) = list(9, 1);
+    let start = Tables { free: vec![7; start.counts.len()], ..start };
+    let mut dice = Dice::new(16);
+    for turn in 0..200 {
+        let word = if turn % 2 == 0 { dice.next() } else { dice.pick(&[0, 1, u64::MAX]) };
+        let mut words = [word; 16];
+        words[0] = 16;
+        assert_eq!(check("fresh", &start, &words, &[Call::Fresh], 1), 1);
+        let found = run(&start, &words, 1);
+        assert_eq!(found.answers.now(), [answer_word(Answer::Done)]);
+        assert_eq!(found.lent.free.now(), start.counts);
+    }
+    let like_16 = [16 << 8 | 16, 1 << 32 | 16, 1 << 63 | 16, 16 << 8, 16 << 32, 16 << 56, u64::MAX - 15, u64::MAX];
+    for kind in (0..=300).chain(like_16) {
+        let mut words = [0; 16];
+        words[0] = kind;
+        let known = (1..=5).contains(&kind) || kind == 16;
+        assert_eq!(list_refusal(&start, &words, 1), if known { None } else { Some(13) }, "kind {kind}");
+        assert_eq!(run(&start, &words, 1).outcome, if known { Ok(1) } else { Err(13) }, "kind {kind}");
+    }
+}
+
 /// Damages a list in one way, or makes a call of it an install that says too many places, which is no damage; gives the
 /// answer cells to lend.
 fn damage(dice: &mut Dice, words: &mut Vec<u64>, calls: &mut [Call]) -> usize {
     let turn = dice.below(calls.len());
     let at = 16 * turn;
     match dice.below(7) {
-        0 => words[at] = dice.pick(&[0, 6, 7, 255, 256, 257, 1 << 32, u64::MAX]),
+        0 => words[at] = dice.pick(&[0, 6, 7, 15, 17, 255, 256, 257, 272, 1 << 32, 1 << 32 | 16, u64::MAX]),
         1 => {
             words[at] = 4;
             words[at + 5] = dice.pick(&LONG);
@@ -123,7 +194,7 @@ fn damage(dice: &mut Dice, words: &mut Vec<u64>, calls: &mut [Call]) -> usize {
 
 #[test]
 fn damaged_lists_change_nothing() {
-    let mut refused = [0; 14];
+    let mut refused = [0; NUMBERS];
     for seed in seeds(1_500) {
         let mut dice = Dice::new(seed ^ 0xDA4A);
         let (start, mut calls) = if seed % 3 == 0 {

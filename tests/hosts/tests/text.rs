@@ -1,12 +1,12 @@
 //! Node-list text by the linked library and by the second implementation.
 
-use hosts::{read_by_both, seeds, write_by_both};
+use hosts::{read_by_both, seeds, write_by_both, NUMBERS};
 use reference::generate::{text_case, write_case, TextCase, WriteCase};
 
 #[test]
 fn texts_are_read_alike() {
     let mut read_well = 0;
-    let mut refused = [0; 14];
+    let mut refused = [0; NUMBERS];
     let mut longest = 0;
     for seed in seeds(20_000) {
         let TextCase { nodes, allowed, text } = text_case(seed);
@@ -24,7 +24,7 @@ fn texts_are_read_alike() {
 #[test]
 fn masks_are_written_alike_and_read_back() {
     let mut written = 0;
-    let mut refused = [0; 14];
+    let mut refused = [0; NUMBERS];
     for seed in seeds(20_000) {
         let told = format!("write seed {seed}");
         let WriteCase { nodes, mask, room } = write_case(seed);

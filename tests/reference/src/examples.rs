@@ -1,4 +1,5 @@
-//! Document 01's examples and easy mistakes as one table: calls, and what 01 prints for them; and a few readings of its rules.
+//! Document 01's examples and easy mistakes as one table: calls, and what 01 prints for them; a few readings of its rules;
+//! and what M-100 says of free counts.
 //!
 //! This crate runs the table on the second implementation; `hosts` runs it on the linked library and the program too.
 
@@ -17,9 +18,11 @@ pub enum Step {
     Effective(u64, &'static str),
     /// The whole record.
     Record([u64; WORDS]),
+    /// The free counts.
+    Free(Vec<u32>),
 }
 
-/// Steps on a machine with free pages and fresh jobs.
+/// Steps on a machine with fresh jobs; but for M-100's examples its pages are free and its free counts match.
 #[derive(Clone, Debug, PartialEq, Eq)]
 pub struct Example {
     pub name: String,
@@ -69,6 +72,11 @@ impl Example {
         self.call(Call::Request { job: 0, cpu }, Answer::Refused(8))
     }
 
+    /// A request of job 0 that is refused 14.
+    fn wrong_count(self, cpu: usize) -> Example {
+        self.call(Call::Request { job: 0, cpu }, Answer::Refused(14))
+    }
+
     /// Job 0 gives a page back.
     fn release(self, node: u8, page: u32) -> Example {
         self.call(Call::Release { job: 0, page: page as usize }, Answer::Released { node, page })
@@ -82,6 +90,10 @@ impl Example {
         self.step(Step::Effective(mask(nodes), text))
     }
 
+    fn free(self, counts: &[u32]) -> Example {
+        self.step(Step::Free(counts.to_vec()))
+    }
+
     /// Its calls, each with the answer.
     pub fn calls(&self) -> Vec<(&Call, Answer)> {
         let mut calls = Vec::new();
@@ -93,9 +105,11 @@ impl Example {
         calls
     }
 
-    /// The example as a journal and its answers, if N fits one.
+    /// The example as a journal and its answers, if it fits one: N, free pages that are counted, and no fresh table.
     pub fn journal(&self) -> Option<(Vec<u8>, Vec<u8>)> {
-        if self.start.counts.len() > MOST_NODES {
+        let as_a_journal_starts = self.start.free == self.start.counts && self.start.counts_match();
+        let has_fresh = self.calls().iter().any(|(call, _)| **call == Call::Fresh);
+        if self.start.counts.len() > MOST_NODES || !as_a_journal_starts || has_fresh {
             return None;
         }
         let mut journal = machine_bytes(&self.start);
@@ -119,10 +133,11 @@ fn mask(nodes: &[usize]) -> u64 {
     nodes.iter().fold(0, |mask, node| mask | 1 << node)
 }
 
-/// A machine with free pages and eight fresh jobs.
+/// A machine with free pages, which are counted, and eight fresh jobs.
 fn machine(counts: &[u32], cpus: &[u8], distances: Vec<u8>) -> Tables {
     let pages = vec![0; counts.iter().sum::<u32>() as usize];
-    Tables { counts: counts.to_vec(), cpus: cpus.to_vec(), distances, pages, jobs: vec![0; 8 * WORDS] }
+    let (counts, free) = (counts.to_vec(), counts.to_vec());
+    Tables { counts, cpus: cpus.to_vec(), distances, pages, jobs: vec![0; 8 * WORDS], free }
 }
 
 /// Distances of 10 on the diagonal and another number elsewhere.
@@ -151,12 +166,13 @@ fn on_ten(name: &str, allowed: &[usize], flag: u8, user: &[usize]) -> Example {
 
 /// Every example of the table.
 pub fn all() -> Vec<Example> {
-    [pages(), masks(), sixteen_places(), node_63(), easy_to_get_wrong(), policies(), places(), reach()].concat()
+    [pages(), masks(), sixteen_places(), node_63(), easy_to_get_wrong(), policies(), places(), reach(), free_counts()]
+        .concat()
 }
 
 /// "Shown by example": pages on machine A.
 fn pages() -> Vec<Example> {
-    let one_page_each = Tables { counts: vec![1; 4], pages: vec![0; 4], ..fresh_a() };
+    let one_page_each = Tables { counts: vec![1; 4], pages: vec![0; 4], ..fresh_a() }.counted();
     vec![
         Example::on_a("default, CPU 4: node 0, page 0", DEFAULT, 0, &[])
             .grants(4, &[(0, 0), (0, 1), (3, 4), (3, 5), (1, 2), (1, 3)])
@@ -382,6 +398,78 @@ fn reach() -> Vec<Example> {
     ]
 }
 
+/// M-100: free counts kept, and what is answered where they are wrong.
+fn free_counts() -> Vec<Example> {
+    let a_with = |pages: [u8; 6], free: [u32; 4]| Tables { pages: pages.to_vec(), free: free.to_vec(), ..fresh_a() };
+    let on = |name: &str, start: Tables, mode: u8, places: &[u8]| {
+        Example::new(&format!("M-100: {name}"), start).rebind(0b1111).install(mode, NO_FLAG, 0, places)
+    };
+    let not_held = Call::Release { job: 0, page: 2 };
+    let held = Call::Release { job: 0, page: 0 };
+    let taken = Tables { pages: vec![255, 1, 6, 99, 1, 64, 77], free: vec![9, 0, 9, u32::MAX], ..fresh_a() };
+    vec![
+        on("a grant takes one from the count, a release gives it back", fresh_a(), DEFAULT, &[])
+            .grants(4, &[(0, 0), (0, 1), (3, 4)])
+            .free(&[0, 2, 0, 1])
+            .release(0, 1)
+            .free(&[1, 2, 0, 1]),
+        on(
+            "14: a node counted above 0 without a free page",
+            a_with([6, 6, 0, 0, 0, 0], [1, 2, 0, 2]),
+            RING,
+            &[2, 0, 1],
+        )
+        .wrong_count(0)
+        .cursor(0)
+        .free(&[1, 2, 0, 2]),
+        on("14 only where no page was found before", a_with([6, 6, 0, 0, 0, 0], [1, 2, 0, 2]), RING, &[1, 0])
+            .grants(0, &[(1, 2)])
+            .wrong_count(0)
+            .wrong_count(0)
+            .cursor(1)
+            .free(&[1, 1, 0, 2]),
+        on("14 and not 8 where the other nodes are counted 0", a_with([0, 0, 6, 6, 0, 0], [0, 1, 0, 0]), DEFAULT, &[])
+            .wrong_count(0)
+            .free(&[0, 1, 0, 0]),
+        on("8 with room on nodes counted 0", a_with([0; 6], [0; 4]), DEFAULT, &[]).no_room(0).free(&[0; 4]),
+        on("a node counted 0 is passed over, room or not", a_with([0; 6], [0, 1, 0, 2]), DEFAULT, &[])
+            .grants(0, &[(1, 2), (3, 4), (3, 5)])
+            .no_room(0)
+            .free(&[0; 4]),
+        on(
+            "a count too high grants while there is a free page",
+            a_with([6, 0, 0, 0, 0, 0], [u32::MAX; 4]),
+            LIST,
+            &[0, 1],
+        )
+        .grants(0, &[(0, 1)])
+        .free(&[u32::MAX - 1, u32::MAX, u32::MAX, u32::MAX])
+        .wrong_count(0),
+        on("a count too low grants as many as it says", a_with([0; 6], [1, 2, 0, 2]), LIST, &[0, 1])
+            .grants(0, &[(0, 0), (1, 2)])
+            .free(&[0, 1, 0, 2]),
+        on("14: a release above the node's pages", a_with([1, 0, 0, 0, 0, 0], [2, 2, 0, 2]), DEFAULT, &[])
+            .call(held.clone(), Answer::Refused(14))
+            .free(&[2, 2, 0, 2])
+            .grants(0, &[(0, 1)])
+            .call(held.clone(), Answer::Released { node: 0, page: 0 })
+            .free(&[2, 2, 0, 2]),
+        on("10 before 14 in a release", a_with([1, 0, 0, 0, 0, 0], [u32::MAX; 4]), DEFAULT, &[])
+            .call(not_held, Answer::Refused(10))
+            .call(held, Answer::Refused(14))
+            .free(&[u32::MAX; 4]),
+        on("a fresh table, then requests", taken, DEFAULT, &[])
+            .wrong_count(4)
+            .call(Call::Fresh, Answer::Done)
+            .free(&[2, 2, 0, 2])
+            .grants(4, &[(0, 0), (0, 1), (3, 4), (3, 5), (1, 2), (1, 3)])
+            .no_room(4)
+            .call(Call::Fresh, Answer::Done)
+            .grants(6, &[(3, 4)])
+            .free(&[2, 2, 0, 1]),
+    ]
+}
+
 /// A text with N and the allowed set; the mask it stands for and how that is written, or the refusal.
 #[derive(Clone, Copy, Debug, PartialEq, Eq)]
 pub struct TextExample {
@@ -457,6 +545,7 @@ mod tests {
                         assert_eq!(written(tables.counts.len(), *mask), *text, "{told}");
                     }
                     Step::Record(words) => assert_eq!(tables.jobs[..WORDS], *words, "{told}"),
+                    Step::Free(counts) => assert_eq!(tables.free, *counts, "{told}"),
                 }
             }
             if let Some((journal, answers)) = example.journal() {

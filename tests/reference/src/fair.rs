@@ -1,4 +1,4 @@
-//! Demand 3 by brute force: every window of k times L granted requests is counted.
+//! Demand 3 by brute force: every window of k times L granted requests is counted; the free counts match at the start (M-100).
 
 use crate::calls::{apply, first_with_room, Answer, Call, Tables};
 use crate::machine::lowest_free_page;
@@ -129,7 +129,7 @@ fn which_granted(record: &Record, grant: Grant) -> Option<usize> {
 fn job_whose_policy_is_set(call: &Call) -> Option<usize> {
     match call {
         Call::Install { job, .. } | Call::Rebind { job, .. } | Call::Clear { job } => Some(*job),
-        Call::Request { .. } | Call::Release { .. } => None,
+        Call::Request { .. } | Call::Release { .. } | Call::Fresh => None,
     }
 }
 
@@ -141,7 +141,9 @@ fn begin(tables: &Tables, job: usize) -> Stretch {
 
 /// All stretches of all jobs. Each is a list of demand 3: it starts in the
 /// tables as they are then, and its job's policy is set only by refused calls.
+/// "Demands 2 and 3 then read for matching counts" (M-100).
 pub fn stretches(start: &Tables, calls: &[Call], ask: Ask) -> Vec<Stretch> {
+    assert!(start.counts_match(), "demand 3 reads for matching counts");
     let mut tables = start.clone();
     let mut done = Vec::new();
     let mut open = Vec::new();
@@ -323,6 +325,7 @@ mod tests {
     fn the_checker_fails_on_a_ring_that_loses_turns() {
         let mut tables = policy(5, 0, &[0, 1]);
         tables.pages = vec![0, 9, 0, 9, 9, 9];
+        tables = tables.counted();
         assert_eq!(apply(&mut tables, &Call::Rebind { job: 1, allowed: 0b0010 }), Answer::Done);
         // Job 1 takes the page of place 1, job 0 is refused, both are freed: the turn is place 1's.
         let calls = vec![
@@ -343,6 +346,7 @@ mod tests {
         let mut tables = policy(3, 0b1111, &[]);
         tables.counts = vec![4, 0, 4, 4];
         tables.pages = vec![0; 12];
+        tables = tables.counted();
         assert!(check(&tables, &requests(12)).is_ok());
         assert!(check_with(&tables, &requests(12), ask_storing_served).is_err());
     }
@@ -352,6 +356,7 @@ mod tests {
         let mut tables = policy(5, 0, &[3, 3, 1]);
         tables.counts = vec![0, 9, 0, 9];
         tables.pages = vec![0; 18];
+        tables = tables.counted();
         let seen = check(&tables, &requests(12)).unwrap();
         assert_eq!(seen.grants, 12);
         assert!(seen.exact > 0);

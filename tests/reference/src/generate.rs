@@ -7,6 +7,7 @@ use std::collections::VecDeque;
 
 use crate::calls::{apply, Answer, Call, Tables};
 use crate::journal::{call_bytes, is_used, machine_bytes, CLEAR, INSTALL, JOBS, REBIND, RELEASE, REQUEST};
+use crate::machine::free_counts;
 use crate::masks::{all_below, folded, node_of_rank, size, with};
 use crate::record::{
     fresh, has_a_list, has_a_mask, read, words, write, Record, BIND, EARLY, INTERLEAVE, LIST, MOST_PLACES, NO_FLAG,
@@ -172,7 +173,7 @@ fn some_distances(dice: &mut Dice, nodes: usize) -> Vec<u8> {
     distances
 }
 
-/// A machine that keeps the rules, all pages free, fresh jobs.
+/// A machine that keeps the rules, all pages free and counted, fresh jobs.
 fn some_machine(dice: &mut Dice, nodes: usize, most_cpus: usize, jobs: usize) -> Tables {
     let counts = some_counts(dice, nodes);
     let cpus = some_cpus(dice, nodes, most_cpus);
@@ -181,7 +182,92 @@ fn some_machine(dice: &mut Dice, nodes: usize, most_cpus: usize, jobs: usize) ->
     for count in &counts {
         total += *count as usize;
     }
-    Tables { counts, cpus, distances, pages: vec![0; total], jobs: vec![0; jobs * WORDS] }
+    let free = counts.clone();
+    Tables { counts, cpus, distances, pages: vec![0; total], jobs: vec![0; jobs * WORDS], free }
+}
+
+// ---------------------------------------------------------------- free counts
+
+/// How free counts stand to the page table (M-100).
+#[derive(Clone, Copy, Debug, PartialEq, Eq, PartialOrd, Ord)]
+pub enum Counts {
+    Matching,
+    /// Fewer entries than nodes.
+    TooFew,
+    /// More entries than nodes.
+    TooMany,
+    /// Some counts above the node's pages.
+    AbovePages,
+    /// Some counts a little too high.
+    TooHigh,
+    /// Some counts a little too low.
+    TooLow,
+    /// Right ones, too low and too high ones beside each other.
+    Mixed,
+    AllMost,
+    AllZero,
+}
+
+/// Every sort of free counts; the first alone match.
+pub const SORTS_OF_COUNTS: [Counts; 9] = [
+    Counts::Matching,
+    Counts::TooFew,
+    Counts::TooMany,
+    Counts::AbovePages,
+    Counts::TooHigh,
+    Counts::TooLow,
+    Counts::Mixed,
+    Counts::AllMost,
+    Counts::AllZero,
+];
+
+/// Puts free counts of a sort into the tables. Where all pages are held, counts too low or all 0 may still match.
+pub fn put_counts(dice: &mut Dice, tables: &mut Tables, sort: Counts) {
+    let mut free = free_counts(&tables.counts, &tables.pages);
+    let nodes = free.len();
+    match sort {
+        Counts::Matching => {}
+        Counts::TooFew => {
+            let missing = dice.pick(&[1, 1, nodes / 2, nodes]).max(1);
+            free.truncate(nodes.saturating_sub(missing));
+        }
+        Counts::TooMany => {
+            for _ in 0..dice.pick(&[1, 1, 2, nodes, 64, 1_000]) {
+                free.push(dice.pick(&[0, 1, u32::MAX]));
+            }
+        }
+        Counts::AbovePages | Counts::TooHigh | Counts::TooLow => {
+            let percent = dice.pick(&[20, 60, 100]);
+            let certain = dice.below(nodes);
+            for node in 0..nodes {
+                if node == certain || dice.chance(percent) {
+                    let little = dice.between(1, 3) as u32;
+                    free[node] = match sort {
+                        Counts::AbovePages => {
+                            let above = dice.pick(&[1, 2, 65_536, u32::MAX]);
+                            tables.counts[node].saturating_add(above)
+                        }
+                        Counts::TooHigh => free[node].saturating_add(little),
+                        _ => free[node].saturating_sub(little),
+                    };
+                }
+            }
+        }
+        Counts::Mixed => {
+            for (count, all) in free.iter_mut().zip(&tables.counts) {
+                *count = dice.pick(&[*count, *count, 0, 1, *all, all.saturating_add(1), u32::MAX]);
+            }
+        }
+        Counts::AllMost => free = vec![u32::MAX; nodes],
+        Counts::AllZero => free = vec![0; nodes],
+    }
+    tables.free = free;
+}
+
+/// Free counts of any sort, half of them matching.
+fn put_some_counts(dice: &mut Dice, tables: &mut Tables) {
+    let sort = if dice.chance(50) { Counts::Matching } else { dice.pick(&SORTS_OF_COUNTS) };
+    put_counts(dice, tables, sort);
 }
 
 // ---------------------------------------------------------------- policies
@@ -321,6 +407,8 @@ struct Script {
     run_left: usize,
     /// Whether releases are more common than requests just now.
     draining: bool,
+    /// Whether a call may make a fresh table, which no journal can.
+    has_fresh: bool,
 }
 
 impl Script {
@@ -534,6 +622,9 @@ impl Script {
         if let Some(call) = self.queue.pop_front() {
             return call;
         }
+        if self.has_fresh && self.dice.chance(1) {
+            return Call::Fresh;
+        }
         if self.run_left > 0 {
             return self.go_on_running();
         }
@@ -604,6 +695,7 @@ pub fn journal_parts(seed: u64, records: usize) -> (Tables, Vec<Call>) {
         run_job: 0,
         run_left: 0,
         draining: false,
+        has_fresh: false,
     };
     let calls = script.calls(records);
     (start, calls)
@@ -624,8 +716,9 @@ pub fn journal(seed: u64, records: usize) -> Vec<u8> {
     bytes_of(&machine, &calls)
 }
 
-/// A list of calls as demand 3 takes it: any page table, any job table, and
-/// no accepted policy call for the jobs that start in ring or interleave mode.
+/// A list of calls as demand 3 takes it: any page table with counts that match,
+/// any job table, some fresh tables, and no accepted policy call for the jobs
+/// that start in ring or interleave mode.
 pub fn list(seed: u64, how_many: usize) -> (Tables, Vec<Call>) {
     let mut dice = Dice::new(seed ^ 0x1157);
     let nodes = match dice.below(10) {
@@ -636,6 +729,7 @@ pub fn list(seed: u64, how_many: usize) -> (Tables, Vec<Call>) {
     let job_count = dice.between(1, 6);
     let mut start = some_machine(&mut dice, nodes, 256, job_count);
     fill_some_pages(&mut dice, &mut start);
+    start = start.counted();
     let mut watched = Vec::new();
     for job in 0..job_count {
         let ring_or_interleave = job < 2 || dice.chance(40);
@@ -658,6 +752,7 @@ pub fn list(seed: u64, how_many: usize) -> (Tables, Vec<Call>) {
         run_job: 0,
         run_left: 0,
         draining: false,
+        has_fresh: true,
     };
     let calls = script.calls(how_many);
     (start, calls)
@@ -1149,7 +1244,7 @@ fn some_call(dice: &mut Dice, nodes: usize, tables: &Tables) -> Call {
     if job < tables.jobs.len() / WORDS {
         allowed = read(&tables.jobs, job).allowed;
     }
-    match dice.below(14) {
+    match dice.below(15) {
         0..=4 => {
             let count = tables.cpus.len();
             let far = dice.pick(&[count, count + 1, 256, usize::MAX, 1 << 32]);
@@ -1168,7 +1263,8 @@ fn some_call(dice: &mut Dice, nodes: usize, tables: &Tables) -> Call {
         },
         11 => good_rebind(dice, nodes, job),
         12 => Call::Rebind { job, allowed: dice.mask() },
-        _ => Call::Clear { job },
+        13 => Call::Clear { job },
+        _ => Call::Fresh,
     }
 }
 
@@ -1190,6 +1286,7 @@ fn some_release(dice: &mut Dice, tables: &Tables, job: usize) -> Call {
 pub fn case(seed: u64) -> Case {
     let mut dice = Dice::new(seed ^ 0x7AB1E5);
     let mut tables = if seed % 97 == 96 { huge_tables(&mut dice) } else { good_tables(&mut dice) };
+    put_some_counts(&mut dice, &mut tables);
     let mut nodes = tables.counts.len();
     let call = some_call(&mut dice, nodes, &tables);
     if dice.chance(12) {
@@ -1199,6 +1296,9 @@ pub fn case(seed: u64) -> Case {
         damage_tables(&mut dice, &mut tables);
         if dice.chance(25) {
             damage_tables(&mut dice, &mut tables);
+        }
+        if dice.chance(50) {
+            put_some_counts(&mut dice, &mut tables);
         }
     }
     Case { nodes, tables, call }
@@ -1659,6 +1759,7 @@ mod tests {
                 Call::Rebind { .. } => 3,
                 Call::Install { .. } => 4,
                 Call::Clear { .. } => 5,
+                Call::Fresh => 16,
             };
             shown.insert((kind, refusal(answer)));
             if refusal(answer) != 0 {
@@ -1669,7 +1770,7 @@ mod tests {
                 granted.insert((record.mode, record.flag));
                 assert!(well_formed(tables.counts.len(), &read(&after.jobs, *job)));
             }
-            let policy_done = kind >= 3 && answer == Answer::Done;
+            let policy_done = answer == Answer::Done;
             if let (Call::Install { job, .. } | Call::Rebind { job, .. } | Call::Clear { job }, true) =
                 (&call, policy_done)
             {
@@ -1683,10 +1784,12 @@ mod tests {
             (1, 3),
             (1, 4),
             (1, 8),
+            (1, 14),
             (2, 0),
             (2, 1),
             (2, 2),
             (2, 10),
+            (2, 14),
             (3, 0),
             (3, 1),
             (3, 2),
@@ -1703,6 +1806,8 @@ mod tests {
             (5, 0),
             (5, 1),
             (5, 2),
+            (16, 0),
+            (16, 1),
         ];
         assert_eq!(shown, BTreeSet::from(expected));
         assert_eq!(granted, all_modes_and_flags());

@@ -73,7 +73,8 @@ fn machine_length(nodes: usize, cpu_count: usize) -> usize {
     HEAD + 2 * nodes + cpu_count + nodes * nodes
 }
 
-/// The tables a whole machine record describes, all pages free, 64 fresh jobs (The journal program).
+/// The tables a whole machine record describes, all pages free, 64 fresh jobs (The journal program); the free counts are
+/// the page counts, so they match (M-100).
 fn tables_of(nodes: usize, cpu_count: usize, journal: &[u8]) -> Tables {
     let mut counts = Vec::new();
     for node in 0..nodes {
@@ -85,12 +86,14 @@ fn tables_of(nodes: usize, cpu_count: usize, journal: &[u8]) -> Tables {
     let distances_from = cpus_from + cpu_count;
     let end = distances_from + nodes * nodes;
     let pages = vec![0; all_pages(&counts) as usize];
+    let free = counts.clone();
     Tables {
         counts,
         cpus: journal[cpus_from..distances_from].to_vec(),
         distances: journal[distances_from..end].to_vec(),
         pages,
         jobs: vec![0; JOBS * WORDS],
+        free,
     }
 }
 
@@ -264,7 +267,7 @@ pub fn machine_bytes(tables: &Tables) -> Vec<u8> {
     bytes
 }
 
-/// The 32 bytes of a call whose numbers fit its fields (The journal program).
+/// The 32 bytes of a call whose numbers fit its fields (The journal program). A fresh table has no record: it panics.
 pub fn call_bytes(call: &Call) -> [u8; RECORD] {
     let mut bytes = [0; RECORD];
     bytes[0] = MARK[0];
@@ -300,6 +303,7 @@ pub fn call_bytes(call: &Call) -> [u8; RECORD] {
             bytes[2] = CLEAR;
             bytes[3] = *job as u8;
         }
+        Call::Fresh => panic!("a journal has no record for a fresh table"),
     }
     bytes
 }

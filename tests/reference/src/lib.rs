@@ -1,8 +1,8 @@
-//! The second, independent implementation of document 01.
+//! The second, independent implementation of document 01, as document 02 amends it: M-100.
 //!
-//! Written from the paper alone, to be compared with the real one byte for
-//! byte. Plain and slow on purpose: every function is named after the paper's
-//! own words and cites the section it follows.
+//! Written from the papers alone, to be compared with the real one byte for
+//! byte. Plain and slow on purpose: every function is named after the papers'
+//! own words and cites the section or the request it follows.
 
 #![forbid(unsafe_code)]
 
@@ -18,5 +18,7 @@ pub mod program;
 pub mod record;
 pub mod text;
 
+#[cfg(test)]
+mod matching;
 #[cfg(test)]
 mod refusals;

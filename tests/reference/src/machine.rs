@@ -92,7 +92,12 @@ pub fn jobs_fit(jobs: &[u64]) -> bool {
     how_many >= 1 && how_many <= MOST_JOBS
 }
 
-/// What refusal 1 looks at in a request: all tables (Refusal numbers).
+/// "one 32-bit free count per node"; "A table not of N entries is refusal 1" (M-100).
+pub fn free_fits(counts: &[u32], free: &[u32]) -> bool {
+    free.len() == counts.len()
+}
+
+/// What refusal 1 looks at in a request: all tables (Refusal numbers); the free counts apart.
 pub fn request_tables_fit(counts: &[u32], cpus: &[u8], distances: &[u8], pages: &[u8], jobs: &[u64]) -> bool {
     counts_fit(counts)
         && cpus_fit(counts.len(), cpus)
@@ -101,9 +106,14 @@ pub fn request_tables_fit(counts: &[u32], cpus: &[u8], distances: &[u8], pages: 
         && jobs_fit(jobs)
 }
 
-/// What refusal 1 looks at in a release: page counts, page and job table (Refusal numbers).
+/// What refusal 1 looks at in a release: page counts, page and job table (Refusal numbers); the free counts apart.
 pub fn release_tables_fit(counts: &[u32], pages: &[u8], jobs: &[u64]) -> bool {
     counts_fit(counts) && pages_fit(counts, pages) && jobs_fit(jobs)
+}
+
+/// What refusal 1 looks at where a fresh table is made: page counts, page table and free counts (M-100).
+pub fn fresh_tables_fit(counts: &[u32], pages: &[u8], free: &[u32]) -> bool {
+    counts_fit(counts) && pages_fit(counts, pages) && free_fits(counts, free)
 }
 
 /// What refusal 1 looks at elsewhere: N and the job table (Refusal numbers).
@@ -130,6 +140,18 @@ pub fn lowest_free_page(counts: &[u32], pages: &[u8], node: usize) -> Option<usi
         }
     }
     None
+}
+
+/// The number of free pages of each node, which matching counts are (M-100). Pages that a short table lacks are not free.
+pub fn free_counts(counts: &[u32], pages: &[u8]) -> Vec<u32> {
+    let mut free = Vec::new();
+    let mut first = 0;
+    for count in counts {
+        let of_node = pages.iter().skip(first).take(*count as usize);
+        free.push(of_node.filter(|byte| **byte == FREE).count() as u32);
+        first += *count as usize;
+    }
+    free
 }
 
 /// The node a page lies in; none if the page is out of range (The machine).
@@ -205,5 +227,14 @@ mod tests {
         assert_eq!(node_of_page(&counts, 5), None);
         assert_eq!(lowest_free_page(&counts, &[1, 0, 9, 255, 0], 2), Some(4));
         assert_eq!(lowest_free_page(&counts, &[1, 0, 9, 255, 0], 1), None);
+    }
+
+    #[test]
+    fn free_pages_are_counted_node_by_node() {
+        assert_eq!(free_counts(&[2, 0, 3], &[1, 0, 9, 255, 0]), [1, 0, 1]);
+        assert_eq!(free_counts(&[2, 0, 3], &[0; 9]), [2, 0, 3]);
+        assert_eq!(free_counts(&[2, 0, 3], &[0; 4]), [2, 0, 2]);
+        assert_eq!(free_counts(&[u32::MAX; 3], &[0; 4]), [4, 0, 0]);
+        assert_eq!(free_counts(&[], &[0; 4]), Vec::<u32>::new());
     }
 }

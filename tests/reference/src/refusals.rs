@@ -11,11 +11,16 @@ fn refused(tables: &Tables, nodes: usize, call: Call, number: u8) {
     assert_eq!(after, *tables);
 }
 
-/// Machine A changed by `change`.
+/// Machine A changed by `change`, with free counts that match.
 fn a_with(change: fn(&mut Tables)) -> Tables {
     let mut tables = machine_a();
     change(&mut tables);
-    tables
+    tables.counted()
+}
+
+/// Machine A with these page bytes and these free counts.
+fn a_counted(pages: &[u8], free: &[u32]) -> Tables {
+    Tables { pages: pages.to_vec(), free: free.to_vec(), ..machine_a() }
 }
 
 /// An install on job 0.
@@ -71,9 +76,15 @@ fn bad_maps() -> Vec<Tables> {
     ]
 }
 
+/// Free counts not of N entries (M-100).
+fn bad_counts() -> Vec<Tables> {
+    let lengths = [0, 1, 3, 5, 8, 64, 65, 1_000];
+    lengths.into_iter().map(|length| a_counted(&[1, 0, 0, 0, 0, 0], &vec![1; length])).collect()
+}
+
 #[test]
 fn request_1() {
-    for tables in [bad_job_tables(), bad_pages(), bad_maps()].concat() {
+    for tables in [bad_job_tables(), bad_pages(), bad_maps(), bad_counts()].concat() {
         refused(&tables, 4, Call::Request { job: 999, cpu: 999 }, 1);
         refused(&tables, 4, Call::Request { job: 0, cpu: 0 }, 1);
     }
@@ -98,10 +109,91 @@ fn request_2_3_4_8() {
     refused(&machine_a(), 4, Call::Request { job: 1, cpu: 0 }, 8);
 }
 
+/// "In a release 14 stands last; in a request it comes before 8" (M-100).
+#[test]
+fn request_14_after_4_and_before_8() {
+    let request = Call::Request { job: 0, cpu: 0 };
+    let mut wrong = a_counted(&[9; 6], &[0, 0, 0, 1]);
+    refused(&wrong, 4, request.clone(), 14);
+    refused(&wrong, 4, Call::Request { job: 0, cpu: 8 }, 3);
+    refused(&wrong, 4, Call::Request { job: 8, cpu: 0 }, 2);
+    // An empty order, and an order of nodes counted 0, meet no such node.
+    refused(&wrong, 4, Call::Request { job: 1, cpu: 0 }, 8);
+    assert_eq!(apply(&mut wrong, &Call::Rebind { job: 0, allowed: 0b0111 }), Answer::Done);
+    refused(&wrong, 4, request.clone(), 8);
+    wrong.jobs[0] = 7;
+    refused(&wrong, 4, request.clone(), 4);
+    wrong.free.push(0);
+    refused(&wrong, 4, request.clone(), 1);
+    // A node without pages may be counted above 0.
+    refused(&a_counted(&[9, 9, 0, 0, 0, 0], &[0, 0, 1, 0]), 4, request.clone(), 14);
+    // Near(0) is 0, 1, 2, 3: the nodes before the wrong one are counted 0, or the page is found first.
+    refused(&a_counted(&[9, 9, 0, 0, 0, 0], &[1, 2, 0, 2]), 4, request.clone(), 14);
+    refused(&a_counted(&[0, 0, 9, 9, 0, 0], &[0, u32::MAX, 0, 2]), 4, request.clone(), 14);
+    refused(&a_counted(&[0; 6], &[0; 4]), 4, request.clone(), 8);
+    let mut found_before = a_counted(&[0, 0, 9, 9, 0, 0], &[1, 2, 0, 2]);
+    assert_eq!(apply(&mut found_before, &request), Answer::Granted { node: 0, page: 0 });
+    assert_eq!(found_before.free, [0, 2, 0, 2]);
+    refused(&found_before, 4, request, 14);
+}
+
+#[test]
+fn release_14_after_10() {
+    let release = |job, page| Call::Release { job, page };
+    for above in [2, 3, 65_536, u32::MAX] {
+        let wrong = a_counted(&[1, 2, 0, 0, 0, 0], &[above, 2, 0, 2]);
+        refused(&wrong, 4, release(0, 0), 14);
+        refused(&wrong, 4, release(1, 1), 14);
+        refused(&wrong, 4, release(0, 1), 10);
+        refused(&wrong, 4, release(0, 6), 10);
+        refused(&wrong, 4, release(8, 0), 2);
+    }
+    for below in [0, 1] {
+        let mut tables = a_counted(&[1, 2, 0, 0, 0, 0], &[below, 9, 9, 9]);
+        assert_eq!(apply(&mut tables, &release(0, 0)), Answer::Released { node: 0, page: 0 });
+        assert_eq!(tables.free, [below + 1, 9, 9, 9]);
+        assert_eq!(tables.pages, [0, 2, 0, 0, 0, 0]);
+    }
+}
+
+/// A fresh table "can be refused only 1", and looks neither at jobs nor at CPUs and distances (M-100).
+#[test]
+fn fresh_1_and_nothing_else() {
+    for tables in [bad_pages(), bad_counts()].concat() {
+        refused(&tables, 4, Call::Fresh, 1);
+    }
+    for tables in [bad_job_tables(), bad_maps()].concat() {
+        let mut after = tables.clone();
+        assert_eq!(apply(&mut after, &Call::Fresh), Answer::Done);
+        assert_eq!(after, tables);
+    }
+    for free in [[0; 4], [u32::MAX; 4], [2, 2, 0, 2]] {
+        let mut tables = a_counted(&[1, 0, 64, 65, 255, 2, 7, 0, 9], &free);
+        let jobs = tables.jobs.clone();
+        assert_eq!(apply(&mut tables, &Call::Fresh), Answer::Done);
+        assert_eq!(tables.pages, [0, 0, 0, 0, 0, 0, 7, 0, 9]);
+        assert_eq!(tables.free, [2, 2, 0, 2]);
+        assert_eq!(tables.jobs, jobs);
+    }
+}
+
+/// Install, rebind and clear are not lent the free counts: a wrong length is not seen there (M-100).
+#[test]
+fn the_other_calls_do_not_look_at_the_counts() {
+    for tables in bad_counts() {
+        for call in [install(2, 0, 1, &[]), Call::Rebind { job: 0, allowed: 1 }, Call::Clear { job: 0 }] {
+            let mut after = tables.clone();
+            assert_eq!(apply(&mut after, &call), Answer::Done);
+            assert_eq!(after.free, tables.free);
+        }
+    }
+}
+
 #[test]
 fn release_1_2_10() {
-    for tables in [bad_job_tables(), bad_pages()].concat() {
+    for tables in [bad_job_tables(), bad_pages(), bad_counts()].concat() {
         refused(&tables, 4, Call::Release { job: 999, page: 999 }, 1);
+        refused(&tables, 4, Call::Release { job: 0, page: 0 }, 1);
     }
     for job in [8, 64, 255, usize::MAX] {
         refused(&machine_a(), 4, Call::Release { job, page: 999 }, 2);
@@ -117,6 +209,7 @@ fn release_1_2_10() {
         let mut tables = tables;
         tables.pages[0] = 1;
         tables.jobs[0] = 7;
+        tables = tables.counted();
         assert_eq!(apply(&mut tables, &Call::Release { job: 0, page: 0 }), Answer::Released { node: 0, page: 0 });
     }
 }
@@ -288,8 +381,10 @@ fn the_longest_tables_are_accepted() {
         distances: vec![10; 256],
         pages: vec![64; 1_048_576 + 5],
         jobs: vec![0; 64 * WORDS],
+        free: vec![0; 16],
     };
     tables.pages[1_048_575] = 0;
+    tables.free[15] = 1;
     assert_eq!(apply(&mut tables, &Call::Rebind { job: 63, allowed: 0x8000 }), Answer::Done);
     let granted = Answer::Granted { node: 15, page: 1_048_575 };
     assert_eq!(apply(&mut tables, &Call::Request { job: 63, cpu: 255 }), granted);

@@ -1,12 +1,12 @@
 //! Answers as lines for people, and the nodes as they fill up.
 
 use reference::calls::Call;
-use reference::journal::{ANSWER, ANSWER_MARK, BROKEN, CLEAR, INSTALL, REBIND, RELEASE, REQUEST};
+use reference::journal::{call_bytes, ANSWER, ANSWER_MARK, BROKEN};
 
 use crate::picture::{picture, strip};
 use crate::script::{Line, Script};
 
-/// Document 01's words for a refusal.
+/// The papers' words for a refusal.
 pub fn refusal_words(number: u8) -> &'static str {
     match number {
         1 => "machine tables or job table length break the rules",
@@ -22,19 +22,14 @@ pub fn refusal_words(number: u8) -> &'static str {
         11 => "output shorter than the text",
         12 => "bad text",
         13 => "damaged journal",
-        _ => "a number that document 01 does not have",
+        14 => "a free count disagrees with the page table",
+        _ => "a number that the papers do not have",
     }
 }
 
-/// The kind that answers a call.
+/// The kind that answers a call: its record's own.
 fn kind_of(call: &Call) -> u8 {
-    match call {
-        Call::Request { .. } => REQUEST,
-        Call::Release { .. } => RELEASE,
-        Call::Rebind { .. } => REBIND,
-        Call::Install { .. } => INSTALL,
-        Call::Clear { .. } => CLEAR,
-    }
+    call_bytes(call)[2]
 }
 
 /// The fields of an answer.

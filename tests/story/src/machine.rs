@@ -39,7 +39,7 @@ impl<'a, I: Iterator<Item = Words<'a>>> Reader<'a, I> {
         }
     }
 
-    /// The machine: its name and its tables, all pages free, all jobs fresh.
+    /// The machine: its name and its tables, all pages free and counted, all jobs fresh.
     pub fn machine(&mut self) -> Result<(String, Tables), Fault> {
         let name = self.line("machine", "`machine` and a name or nothing")?.words[1..].join(" ");
         let expected = format!("`pages` and the pages of 1 to {MOST_NODES} nodes, at most {MOST_PAGES} together");
@@ -54,9 +54,10 @@ impl<'a, I: Iterator<Item = Words<'a>>> Reader<'a, I> {
             distances.extend(self.distances(nodes, node)?);
         }
         let pages = vec![0; counts.iter().sum::<u64>() as usize];
-        let counts = counts.into_iter().map(|count| count as u32).collect();
+        let counts: Vec<u32> = counts.into_iter().map(|count| count as u32).collect();
         let cpus = cpus.into_iter().map(|node| node as u8).collect();
-        Ok((name, Tables { counts, cpus, distances, pages, jobs: vec![0; JOBS * WORDS] }))
+        let free = counts.clone();
+        Ok((name, Tables { counts, cpus, distances, pages, jobs: vec![0; JOBS * WORDS], free }))
     }
 
     /// The distances from one node.

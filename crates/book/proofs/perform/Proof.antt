@@ -1,50 +1,102 @@
 -- `perform` is the book's step, call by call.
 -- Assumes nothing.
-use mathlib.Core.Path.{refl}
+use mathlib.Core.Path.{_≡_, refl}
+use mathlib.Core.Bool.{true}
 use borrow.Author.Needs.{needs}
-use Rattle.rules.proofs.InOrder.{release-ok, record-ok}
-use Rattle.book.proofs.Steps.{did-request, did-release, did-rebind, did-install, did-clear}
+use Rattle.rules.specs.Machine.{Machine}
+use Rattle.rules.specs.Calls.{Tables, tablesOf, requestTablesOk}
+use Rattle.rules.proofs.InOrder.{release-ok, fresh-ok, record-ok}
+use Rattle.machine.specs.Tables.{machineOf}
+use Rattle.book.proofs.Steps.{did-request, did-release, did-rebind, did-install, did-clear, did-fresh}
 use Rattle.book.proofs.perform.Statement.{statement}
 use Rattle.book.proofs.perform.Tie as tie
 
+-- the start, from the place before the call is told apart; the machine and the tables
+abbrev start : tie.After-slice-known3 → tie.Start
+start c = c .before .before .before .before .before .before
+
+abbrev machine : tie.Start → Machine
+machine s = machineOf (s .args .counts .now) (s .args .cpus .now) (s .args .distances .now)
+
+abbrev tables : tie.Start → Tables
+tables s = tablesOf (s .args .pages .now) (s .args .jobs .now) (s .args .free .now)
+
 release-at-requires : tie.Need-release-at-requires
-release-at-requires c κs =
-    let k = c .before .before in
-    let s = k .before .before .before .before .before .before .before .before in
-    (release-ok _ _ (s .pre .0), s .pre .1)
+release-at-requires c κs = let s = start (c .before .before .before .before .before .before) in (release-ok (machine s) (tables s) (s .pre .0), s .pre .1)
 
 rebind-at-requires : tie.Need-rebind-at-requires
-rebind-at-requires c κs = let k = c .before in record-ok _ _ (k .before .before .before .before .before .before .before .before .pre .0)
+rebind-at-requires c κs = let s = start (c .before .before .before .before) in record-ok (machine s) (tables s) (s .pre .0)
 
 install-at-requires : tie.Need-install-at-requires
-install-at-requires c κs = let k = c .before in record-ok _ _ (k .before .before .before .before .before .before .before .before .pre .0)
+install-at-requires c κs = let s = start (c .before .before .before .before) in record-ok (machine s) (tables s) (s .pre .0)
 
 clear-at-requires : tie.Need-clear-at-requires
-clear-at-requires c κs = let k = c .before in record-ok _ _ (k .before .before .before .before .before .before .before .before .pre .0)
+clear-at-requires c κs = let s = start (c .before .before .before .before) in record-ok (machine s) (tables s) (s .pre .0)
+
+fresh-at-requires : tie.Need-fresh-at-requires
+fresh-at-requires c κs =
+    let s = start (c .before .before .before .before) in
+    (fresh-ok _ (tables s) (release-ok (machine s) (tables s) (s .pre .0)), s .pre .1)
 
 returns : tie.Need-returns
 returns c x s =
-    let d = c .before .before .before .before in
-    did-request _ _ _ _ _ _ x s (d .before .before .before .before .call .given .1) (d .request-at .ensures)
+    let d = c .before .before .before .before .before .before in
+    did-request _ _ _ _ _ _ x s (d .before .before .before .before .before .call .given .1) (d .request-at .ensures)
 
 returns-2 : tie.Need-returns-2
 returns-2 c x s =
-    did-release _ _ _ _ _ _ x s (c .before .before .before .before .before .before .call2 .given .1) (c .before .before .release-at .ensures)
+    let d = c .before .before .before .before in
+    did-release _ _ _ _ _ _ x s (d .before .before .before .before .before .call2 .given .1) (d .release-at .ensures)
 
 returns-3 : tie.Need-returns-3
-returns-3 c x s = did-rebind _ _ _ _ _ _ x s (c .before .before .before .before .before .call3 .given .1) (c .before .before .rebind-at .ensures _)
+returns-3 c x s =
+    let d = c .before .before in
+    let t = tables (start (d .before .before .before .before .before)) in
+    did-rebind _ t _ _ _ _ x s (d .before .before .before .call3 .given .1) (d .rebind-at .ensures t)
 
 returns-4 : tie.Need-returns-4
 returns-4 c x s =
-    did-install _ _ _ _ _ _ x s _ (c .before .before .before .before .before .call4 .given .1) refl refl refl refl refl
-    (λ p q. c .before .before .install-at .ensures _ p q)
+    let d = c .before .before in
+    let t = tables (start (d .before .before .before .before .before)) in
+    did-install _ t _ _ _ _ x s _ (d .before .before .before .call4 .given .1) refl refl refl refl refl (λ p q. d .install-at .ensures t p q)
 
 returns-5 : tie.Need-returns-5
-returns-5 c x s = did-clear _ _ _ _ _ _ x s (c .before .before .before .before .before .call5 .given .1) (c .before .before .clear-at .ensures _)
+returns-5 c x s =
+    let d = c .before .before in
+    let t = tables (start (d .before .before .before .before .before)) in
+    did-clear _ t _ _ _ _ x s (d .before .before .before .call5 .given .1) (d .clear-at .ensures t)
+
+returns-6 : tie.Need-returns-6
+returns-6 c x s =
+    let d = c .before .before .before .before in
+    let t = tables (start (d .before .before .before .before .before)) in
+    did-fresh _ t _ _ _ _ x s (d .before .before .before .enum-told .given .1) (d .fresh-at .ensures t)
 
 pub perform-spec : {M : Type 1} → statement M
 perform-spec =
     tie.close
-    (tie.spec (search needs) (λ c κs. search needs) (search needs) release-at-requires (search needs) rebind-at-requires (search needs) install-at-requires
-    (search needs) clear-at-requires (search needs) (search needs) returns (search needs) (search needs) returns-2 (search needs) returns-3
-    (search needs) returns-4 (search needs) returns-5)
+    (tie.spec
+    (search needs)
+    (λ c κs. search needs)
+    (search needs)
+    release-at-requires
+    (search needs)
+    rebind-at-requires
+    (search needs)
+    install-at-requires
+    (search needs)
+    clear-at-requires
+    (search needs)
+    fresh-at-requires
+    (search needs) (search needs) (search needs)
+    returns
+    (search needs) (search needs) (search needs)
+    returns-2
+    (search needs)
+    returns-3
+    (search needs)
+    returns-4
+    (search needs)
+    returns-5
+    (search needs) (search needs)
+    returns-6)

@@ -12,7 +12,7 @@ use Rattle.placement.proofs.admit.Tie as tie
 returns : tie.Need-returns
 unfolding admitted
 returns c =
-    let s = c .before .before .before .before .before .before .before in
+    let s = c .before .before .before .before .before .before .before .before in
     rw (s .pre, sym (c .before .has-job .ensures) ∙ not-true _ (c .if1 .taken))
 
 -- no such CPU
@@ -20,7 +20,7 @@ returns-2 : tie.Need-returns-2
 unfolding admitted
 returns-2 c =
     let known = c .before in
-    let s = known .before .before .before .before .before .before .before in
+    let s = known .before .before .before .before .before .before .before .before in
     rw (s .pre, sym (known .before .has-job .ensures) ∙ not-false _ (known .if1 .left), le-ltb _ _ (c .if2 .taken))
 
 load-requires : tie.Need-load-requires
@@ -32,7 +32,7 @@ unfolding admitted
 returns-3 c =
     let loaded = c .before .before in
     let known = loaded .before .before in
-    let s = known .before .before .before .before .before .before .before in
+    let s = known .before .before .before .before .before .before .before .before in
     rw (
       s .pre,
       sym (known .before .has-job .ensures) ∙ not-false _ (known .if1 .left),
@@ -46,7 +46,7 @@ unfolding admitted
 returns-4 c =
     let loaded = c .before .before in
     let known = loaded .before .before in
-    let s = known .before .before .before .before .before .before .before in
+    let s = known .before .before .before .before .before .before .before .before in
     rw (
       s .pre,
       sym (known .before .has-job .ensures) ∙ not-false _ (known .if1 .left),

@@ -1,4 +1,4 @@
--- `release` meets its contract: the page counts first, then the page table and the job table.
+-- `release` meets its contract: the page counts first, then the other tables.
 -- Assumes nothing.
 use mathlib.Core.Path.{_≡_, sym, _∙_}
 use mathlib.Core.Bool.{true, _&&_}
@@ -6,7 +6,7 @@ use borrow.Author.Needs.{needs}
 use borrow.Author.Tests.{not-true, not-false}
 use lib.ListN.{length}
 use Rattle.rules.specs.Machine.{nodesOk, pagesOk}
-use Rattle.rules.specs.Calls.{Tables, tablesOf, releaseTablesOk, applied, releaseDecision, onRelease}
+use Rattle.rules.specs.Calls.{Tables, tablesOf, freshTablesOk, releaseTablesOk, applied, releaseDecision, onRelease}
 use Rattle.rules.proofs.Machine.{counts-in-order}
 use Rattle.placement.proofs.InOrder.{release-tested}
 use Rattle.placement.proofs.release.Statement.{statement}
@@ -14,14 +14,14 @@ use Rattle.placement.proofs.release.Tie as tie
 
 -- the call, from the place after the test of the counts; the tables
 abbrev call : tie.After-page-counts-ok → tie.Start
-call c = c .before .before .before .before
+call c = c .before .before .before .before .before
 
 abbrev tables : tie.Start → Tables
-tables s = tablesOf (s .args .pages .now) (s .args .jobs .now)
+tables s = tablesOf (s .args .pages .now) (s .args .jobs .now) (s .args .free .now)
 
 -- the page counts break the rules
 returns : tie.Need-returns
-unfolding onRelease releaseDecision applied releaseTablesOk
+unfolding onRelease releaseDecision applied releaseTablesOk freshTablesOk
 returns c = rw (sym (c .before .page-counts-ok .ensures) ∙ not-true _ (c .if1 .taken))
 
 -- the page counts are in order
@@ -37,7 +37,7 @@ lent-ok-requires c κs =
     let i = counts-in-order _ (counts-ok (made .before)) in
     (i .nodesMost, i .pagesMost, made .starts-of .ensures)
 
--- the page table or the job table does
+-- the page table, the free counts or the job table do
 returns-2 : tie.Need-returns-2
 unfolding onRelease releaseDecision applied
 returns-2 c =
@@ -52,7 +52,7 @@ tables-ok c =
 
 release-at-requires : tie.Need-release-at-requires
 release-at-requires c κs =
-    let known = c .before .before in
+    let known = c .before .before .before in
     (tables-ok known, known .before .before .before .starts-of .ensures)
 
 pub release-spec : {M : Type 1} → statement M
@@ -65,5 +65,5 @@ release-spec =
     lent-ok-requires
     returns-2
     release-at-requires
-    (search needs)
+    (search needs) (search needs)
     (λ c. search needs))

@@ -1,4 +1,4 @@
--- `request` meets its contract: the machine first, then the page table and the job table.
+-- `request` meets its contract: the machine first, then the other tables.
 -- Assumes nothing.
 use mathlib.Core.Path.{_≡_, sym, _∙_}
 use mathlib.Core.Bool.{true}
@@ -14,13 +14,13 @@ use Rattle.placement.proofs.request.Tie as tie
 
 -- the call, from the place after the machine's test; the machine and the tables
 abbrev call : tie.After-machine-ok → tie.Start
-call c = c .before .before .before .before .before .before
+call c = c .before .before .before .before .before .before .before
 
 abbrev machine : tie.Start → Machine
 machine s = machineOf (s .args .counts .now) (s .args .cpus .now) (s .args .distances .now)
 
 abbrev tables : tie.Start → Tables
-tables s = tablesOf (s .args .pages .now) (s .args .jobs .now)
+tables s = tablesOf (s .args .pages .now) (s .args .jobs .now) (s .args .free .now)
 
 -- the machine breaks the rules
 returns : tie.Need-returns
@@ -40,7 +40,7 @@ lent-ok-requires c κs =
     let i = in-order _ (machine-ok (made .before)) .counts in
     (i .nodesMost, i .pagesMost, made .starts-of .ensures)
 
--- the page table or the job table does
+-- the page table, the free counts or the job table do
 returns-2 : tie.Need-returns-2
 unfolding onRequest requestDecision admitted applied
 returns-2 c =
@@ -56,7 +56,7 @@ tables-ok c =
 
 request-at-requires : tie.Need-request-at-requires
 request-at-requires c κs =
-    let known = c .before .before .before in
+    let known = c .before .before .before .before in
     (tables-ok known, known .before .before .before .starts-of .ensures)
 
 pub request-spec : {M : Type 1} → statement M
@@ -69,5 +69,5 @@ request-spec =
     lent-ok-requires
     returns-2
     request-at-requires
-    (search needs) (search needs)
+    (search needs) (search needs) (search needs)
     (λ c. search needs))

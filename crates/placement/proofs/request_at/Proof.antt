@@ -18,11 +18,11 @@ abbrev machine : tie.Start → Machine
 machine s = machineOf (s .args .counts .now) (s .args .cpus .now) (s .args .distances .now)
 
 abbrev tables : tie.Start → Tables
-tables s = tablesOf (s .args .pages .now) (s .args .jobs .now)
+tables s = tablesOf (s .args .pages .now) (s .args .jobs .now) (s .args .free .now)
 
 -- the call, from the place after the tests
 abbrev call : tie.After-admit → tie.Start
-call c = c .before .before .before .before .before .before .before .before
+call c = let lent = c .before .before .before .before in lent .before .before .before .before .before .before
 
 -- the tests are passed
 passed : (c : tie.After-admission) →
@@ -36,16 +36,16 @@ passes c = let-through _ _ _ _ (passed c) .0
 serve-requires : tie.Need-serve-requires
 unfolding recordOf
 serve-requires c κs =
-    let there = c .before .before .before .before in
+    let there = c .before .before .before .before .before in
     let s = call (there .before .before) in
-    (searchable (machine s) (tables s) (s .args .job) (s .args .cpu) (let-through _ _ _ _ (passed there)) (s .pre .1), passes there .job)
+    searchable (machine s) (tables s) (s .args .job) (s .args .cpu) (let-through _ _ _ _ (passed there)) (s .pre .1)
 
 -- the search serves
 returns : tie.Need-returns
 unfolding recordOf
 returns c =
-    let done = c .before .before .before .before in
-    let there = done .before .before .before .before .before in
+    let done = c .before .before .before .before .before .before in
+    let there = done .before .before .before .before .before .before in
     let s = call (there .before .before) in
     request-served (machine s) (tables s) (s .args .job) (s .args .cpu) (passed there) (done .serve .ensures)
 
@@ -60,11 +60,11 @@ pub request-at-spec : {M : Type 1} → statement M
 request-at-spec =
     tie.close
     (tie.spec
-    (λ c κs. c .before .before .before .before .before .before .before .pre .0)
+    (λ c κs. let lent = c .before .before .before in lent .before .before .before .before .before .before .pre .0)
     (search needs)
     (λ c. ltb-true _ _ (passes (c .before .before) .cpu))
     serve-requires
-    (search needs) (search needs) (search needs)
+    (search needs) (search needs) (search needs) (search needs)
     returns
-    (search needs) (search needs)
+    (search needs) (search needs) (search needs)
     returns-2)

@@ -1,64 +1,77 @@
--- `serve` meets its contract: the search of the job's order, then the turn.
+-- `serve` meets its contract: the search of the job's order, then the grant by the node that it chooses.
 -- Assumes nothing.
-use mathlib.Core.Path.{_≡_}
-use native.Mathlib.Omega.{arith}
+use mathlib.Core.Path.{_≡_, sym, ap, _∙_}
+use mathlib.Core.List.{List}
+use mathlib.Core.Option.{Option}
 use borrow.Author.Needs.{needs}
-use borrow.Author.Tests.{ltb-true}
-use Rattle.rules.specs.Calls.{Tables, tablesOf}
+use lib.ListN.{length}
+use Rattle.rules.specs.SearchOrder.{Try, order, plan, chosen}
+use Rattle.rules.specs.Calls.{Tables, tablesOf, Outcome, applied, serve}
 use Rattle.records.specs.Jobs.{jobOf, recordOf}
-use Rattle.placement.proofs.Requests.{served}
+use Rattle.placement.specs.Searches.{chosenBy}
+use Rattle.placement.proofs.Grants.{chose}
 use Rattle.placement.proofs.serve.Statement.{statement}
 use Rattle.placement.proofs.serve.Tie as tie
 
 -- the call, from the place after the record is decoded
 abbrev call : tie.After-job → tie.Start
-call c = c .before .before .before .before .before .before
+call c = c .before .before .before .before .before .before .before
 
 abbrev tables : tie.Start → Tables
-tables s = tablesOf (s .args .pages .now) (s .args .jobs .now)
+tables s = tablesOf (s .args .pages .now) (s .args .jobs .now) (s .args .free .now)
 
 -- the decoded job is the record
 decoded : (c : tie.After-job) → jobOf (c .job .result) ≡ recordOf (call c .args .loaded)
-decoded c = c .job .ensures _ (call c .pre .0 .plannable .formed)
+decoded c = c .job .ensures _ (call c .pre .3 .plannable .formed)
 
-cast-grant-page : tie.Need-cast-grant-page
-cast-grant-page c = omega (arith, call (c .before) .pre .0 .ready .job)
+-- the job's order, and the try that is chosen of it
+abbrev tries : tie.Start → List Try
+tries s =
+    order (length (s .args .counts .now)) (s .args .distances .now) (s .args .loaded .allowed .0)
+    (plan (s .args .loaded .allowed .0) (recordOf (s .args .loaded)) (s .args .x .0))
 
-grant-page-requires : tie.Need-grant-page-requires
-grant-page-requires c κs = rw (decoded (c .before)) (call (c .before) .pre .0)
+found : (c : tie.After-search) → let s = call (c .before .before) in chosenBy (c .search .result) ≡ chosen (s .args .free .now) (tries s)
+found c = let s = call (c .before .before) in rw (sym (s .pre .2), ← decoded (c .before .before)) (c .search .ensures)
 
-store-cursor-requires : tie.Need-store-cursor-requires
-store-cursor-requires c κs = ltb-true _ _ (call (c .before .before .before .before .before .before .before .before) .pre .1)
+search-requires : tie.Need-search-requires
+search-requires c κs = rw (decoded (c .before)) (call (c .before) .pre .3)
 
--- a page is granted
+grant-node-requires : tie.Need-grant-node-requires
+grant-node-requires c κs =
+    let taken = c .before .before .before .before in
+    let looked = taken .before .before in
+    let s = call (looked .before .before) in
+    (s .pre .0, s .pre .1, chose _ _ (tries s) _ (s .pre .2) (rw (taken .chosen .given .1) at (found looked)))
+
+-- what the rules serve by a choice
+abbrev by : tie.Start → Option Try → Outcome
+by s o = applied (tables s) (serve (s .args .counts .now) (tables s) (s .args .job) o)
+
+-- a node is chosen
 returns : tie.Need-returns
 returns c =
-    let stored = c .before .before in
-    let granted = stored .before .before .before .before .before .before .before in
-    let known = granted .before .before in
-    let s = call known in
-    let by-search = rw (stored .before .before .before .grant .given .1, decoded known) at (granted .grant-page .ensures) in
-    rw (stored .store-cursor .ensures) (served _ (tables s) (s .args .job) by-search)
+    let granted = c .before .before .before .before .before .before in
+    let taken = granted .before .before .before .before .before in
+    let looked = taken .before .before in
+    let s = call (looked .before .before) in
+    granted .grant-node .ensures ∙ ap (by s) (rw (taken .chosen .given .1) at (found looked))
 
--- no node in the order has a free page
+-- none is
 returns-2 : tie.Need-returns-2
+unfolding applied serve
 returns-2 c =
-    let granted = c .before .before .before .before in
-    let known = granted .before .before in
-    let s = call known in
-    let by-search = rw (c .enum-told .given .1, decoded known) at (granted .grant-page .ensures) in
-    served _ (tables s) (s .args .job) by-search
+    let looked = c .before .before in
+    ap (by (call (looked .before .before))) (rw (c .enum-told .given .1) at (found looked))
 
 pub serve-spec : {M : Type 1} → statement M
 serve-spec =
     tie.close
     (tie.spec
     (search needs)
-    cast-grant-page
-    grant-page-requires
+    search-requires
     (search needs)
-    store-cursor-requires
-    (search needs) (search needs) (search needs)
+    grant-node-requires
+    (search needs) (search needs) (search needs) (search needs)
     returns
     (search needs)
     returns-2)

@@ -14,11 +14,11 @@ found c = sym (c .before .has-job .ensures) ∙ not-false _ (c .if1 .left)
 
 returns : tie.Need-returns
 unfolding applied clearDecision onClear
-returns c ledger = rw (c .before .before .before .pre, sym (c .before .has-job .ensures) ∙ not-true _ (c .if1 .taken))
+returns c t = rw (c .before .before .before .pre, sym (c .before .has-job .ensures) ∙ not-true _ (c .if1 .taken))
 
 returns-2 : tie.Need-returns-2
 unfolding afterWrites afterStores applied clearDecision onClear
-returns-2 c ledger =
+returns-2 c t =
     let store = c .before .before in
     let made = store .before .before in
     let there = made .before .before in

@@ -31,11 +31,11 @@ judged c ps =
 
 returns : tie.Need-returns
 unfolding applied installDecision onInstall
-returns c ledger p a = rw (c .before .before .before .pre, sym (c .before .has-job .ensures) ∙ not-true _ (c .if1 .taken))
+returns c t p a = rw (c .before .before .before .pre, sym (c .before .has-job .ensures) ∙ not-true _ (c .if1 .taken))
 
 returns-2 : tie.Need-returns-2
 unfolding applied installDecision onInstall
-returns-2 c ledger p a =
+returns-2 c t p a =
     let there = c .before .before .before .before in
     rw (
       there .before .before .before .pre,
@@ -46,12 +46,12 @@ returns-2 c ledger p a =
 
 returns-3 : tie.Need-returns-3
 unfolding applied onInstall
-returns-3 c ledger p a =
+returns-3 c t p a =
     rw (asks-for a, judged (c .before .before) (p .places), sym (c .before .known .ensures (p .places)) ∙ not-true _ (c .if3 .taken))
 
 returns-4 : tie.Need-returns-4
 unfolding applied onInstall recordOf
-returns-4 c ledger p a =
+returns-4 c t p a =
     let known = c .before .before .before in
     rw (
       asks-for a,
@@ -62,7 +62,7 @@ returns-4 c ledger p a =
 
 returns-5 : tie.Need-returns-5
 unfolding applied onInstall recordOf
-returns-5 c ledger p a =
+returns-5 c t p a =
     let some = c .before .before in
     let known = some .before .before .before in
     rw (
@@ -95,7 +95,7 @@ store-requires c κs =
 
 returns-6 : tie.Need-returns-6
 unfolding afterWrites afterStores applied onInstall recordOf
-returns-6 c ledger p a =
+returns-6 c t p a =
     let new = c .before .before .before in
     let fits = new .before .before in
     let some = fits .before .before in

@@ -45,11 +45,11 @@ last c = rw (c .before .before .is-empty2 .ensures, c .is-empty3 .ensures)
 
 returns : tie.Need-returns
 unfolding applied rebindDecision onRebind
-returns c ledger = rw (c .before .before .before .pre, sym (c .before .has-job .ensures) ∙ not-true _ (c .if1 .taken))
+returns c t = rw (c .before .before .before .pre, sym (c .before .has-job .ensures) ∙ not-true _ (c .if1 .taken))
 
 returns-2 : tie.Need-returns-2
 unfolding applied rebindDecision onRebind
-returns-2 c ledger =
+returns-2 c t =
     let there = c .before .before .before .before in
     rw (
       there .before .before .before .pre,
@@ -60,11 +60,11 @@ returns-2 c ledger =
 
 returns-3 : tie.Need-returns-3
 unfolding applied onRebind
-returns-3 c ledger = rw (judged (c .before .before), sym (c .before .below .ensures) ∙ not-true _ (c .if3 .taken))
+returns-3 c t = rw (judged (c .before .before), sym (c .before .below .ensures) ∙ not-true _ (c .if3 .taken))
 
 returns-4 : tie.Need-returns-4
 unfolding applied onRebind
-returns-4 c ledger =
+returns-4 c t =
     let inside = c .before .before in
     rw (
       judged (inside .before .before),
@@ -74,7 +74,7 @@ returns-4 c ledger =
 
 returns-5 : tie.Need-returns-5
 unfolding applied onRebind
-returns-5 c ledger =
+returns-5 c t =
     let new = c .before .before .before .before in
     let some = new .before .before .before in
     let inside = some .before .before in
@@ -95,7 +95,7 @@ store-requires c κs =
 
 returns-6 : tie.Need-returns-6
 unfolding afterWrites afterStores applied onRebind
-returns-6 c ledger =
+returns-6 c t =
     let fits = c .before .before .before .before in
     let new = fits .before .before .before .before in
     let some = new .before .before .before in

@@ -21,29 +21,30 @@ use Rattle.replay.proofs.Run.{Done, begun, advance, tables-refused, cal
 use Rattle.replay.proofs.replay.Statement.{statement}
 use Rattle.replay.proofs.replay.Tie as tie
 
-record Held (m : Machine) (pages₀ jobs₀ calls answers₀ : List ℕ) (n : ℕ) (pages jobs answers : List ℕ) (i : ℕ) : Type 0 where
+record Held (m : Machine) (t₀ : Tables) (calls answers₀ : List ℕ) (n : ℕ) (t : Tables) (answers : List ℕ) (i : ℕ) : Type 0 where
   within : i ≤ n
-  long-pages : length pages ≡ length pages₀
-  long-jobs : length jobs ≡ length jobs₀
+  long-pages : length (t .ledger) ≡ length (t₀ .ledger)
+  long-jobs : length (t .records) ≡ length (t₀ .records)
+  long-free : length (t .free) ≡ length (t₀ .free)
   long-answers : length answers ≡ length answers₀
-  done : Done m (tablesOf pages₀ jobs₀) calls answers₀ i (tablesOf pages jobs) answers
+  done : Done m t₀ calls answers₀ i t answers
 
 abbrev Inv-loop : tie.InvT-loop
-Inv-loop counts cpus distances pages₀ jobs₀ calls answers₀ starts n i₀ pages jobs answers i =
-    Held (machineOf counts cpus distances) pages₀ jobs₀ calls answers₀ n pages jobs answers i
+Inv-loop counts cpus distances pages₀ jobs₀ free₀ calls answers₀ starts n i₀ pages jobs free answers i =
+    Held (machineOf counts cpus distances) (tablesOf pages₀ jobs₀ free₀) calls answers₀ n (tablesOf pages jobs free) answers i
 
 abbrev μ-loop : tie.MeasureT-loop
-μ-loop counts cpus distances pages₀ jobs₀ calls answers₀ starts n i₀ pages jobs answers i = n - i
+μ-loop counts cpus distances pages₀ jobs₀ free₀ calls answers₀ starts n i₀ pages jobs free answers i = n - i
 
 -- what the replay is lent, at the place after the test of the machine
 abbrev start : tie.After-machine-ok Inv-loop μ-loop → tie.Start Inv-loop μ-loop
-start c = c .before .before .before .before .before .before .before .before
+start c = let lent = c .before .before .before in lent .before .before .before .before .before .before
 
 abbrev machine : tie.After-machine-ok Inv-loop μ-loop → Machine
 machine c = let a = start c .args in machineOf (a .counts .now) (a .cpus .now) (a .distances .now)
 
 abbrev tables : tie.After-machine-ok Inv-loop μ-loop → Tables
-tables c = tablesOf (start c .args .pages .now) (start c .args .jobs .now)
+tables c = tablesOf (start c .args .pages .now) (start c .args .jobs .now) (start c .args .free .now)
 
 -- from the place where all tables are tested: the place after that test, and where the starts are made
 abbrev asked : tie.Else2 Inv-loop μ-loop → tie.After-machine-ok Inv-loop μ-loop
@@ -57,7 +58,7 @@ abbrev tested : tie.At-loop Inv-loop μ-loop → tie.Else2 Inv-loop μ-loop
 tested l = l .before .before .before .before
 
 abbrev round : tie.After-answer-word Inv-loop μ-loop → tie.In-loop Inv-loop μ-loop
-round c = let performed = c .before .before .before .before .before in performed .before .before .before .before .before .before .before
+round c = let done = c .before .before .before .before .before .before .before in done .before .before .before .before .before .before .before .before
 
 -- past the first test the machine is in order, past the second all tables, past the third the calls
 machine-ok : (c : tie.Else1 Inv-loop μ-loop) → machineOk (machine (c .before)) ≡ true
@@ -113,7 +114,7 @@ returns-4 c =
     (room-refused (machine t) (tables t) (a .calls .now) _ (tables-ok (c .before .before .before)) (calls-ok (c .before)) (c .if4 .taken)))
 
 loop-holds : tie.Need-loop-holds Inv-loop μ-loop
-loop-holds c = record { within = search needs; long-pages = refl; long-jobs = refl; long-answers = refl; done = begun _ _ _ _ }
+loop-holds c = record { within = search needs; long-pages = refl; long-jobs = refl; long-free = refl; long-answers = refl; done = begun _ _ _ _ }
 
 read-call-requires : tie.Need-read-call-requires Inv-loop μ-loop
 read-call-requires c κs =
@@ -123,9 +124,9 @@ read-call-requires c κs =
 
 perform-requires : tie.Need-perform-requires Inv-loop μ-loop
 perform-requires c κs =
-    let l = c .before .before .before .before .before .before .before in
-    let ok = same-lengths-ok _ (tables (asked (tested l))) _ (l .loop .inv .long-pages) (l .loop .inv .long-jobs) (tables-ok (tested l)) in
-    (ok, made (tested l) .starts-of .ensures)
+    let l = c .before .before .before .before .before .before .before .before in
+    let h = l .loop .inv in
+    (same-lengths-ok _ (tables (asked (tested l))) _ (h .long-pages) (h .long-jobs) (h .long-free) (tables-ok (tested l)), made (tested l) .starts-of .ensures)
 
 -- an index of a call fits a word: the answers have a place for it
 index-fits : (c : tie.After-answer-word Inv-loop μ-loop) → round c .before .loop .i * 8 < 2 ^ 64
@@ -143,8 +144,8 @@ add-i c = omega (arith, index-fits c)
 
 loop-again : tie.Need-loop-again Inv-loop μ-loop
 loop-again c =
-    let done = c .before .before .before .before .before in
-    let read = done .before .before .before .before .before in
+    let done = c .before .before .before .before .before .before .before in
+    let read = done .before .before .before .before .before .before in
     let l = round c .before in
     let t = asked (tested l) in
     let words = start t .args .calls .now in
@@ -156,6 +157,7 @@ loop-again c =
       within = search needs;
       long-pages = done .perform .kept .1 .1 .1 .1 .0 ∙ h .inv .long-pages;
       long-jobs = done .perform .kept .1 .1 .1 .1 .1 .0 ∙ h .inv .long-jobs;
+      long-free = done .perform .kept .1 .1 .1 .1 .1 .1 .0 ∙ h .inv .long-free;
       long-answers = simp length-set (h .inv .long-answers);
       done = advance (machine t) (tables t) words (start t .args .answers .now) (h .i) _ _ (x .0) _ _ _ (x .1) (omega arith) (h .inv .done)
           (done .perform .ensures (x .0) says) (c .answer-word .ensures);
@@ -168,7 +170,10 @@ same-length-2 : tie.Need-same-length-2 Inv-loop μ-loop
 same-length-2 c = c .before .loop .inv .long-jobs
 
 same-length-3 : tie.Need-same-length-3 Inv-loop μ-loop
-same-length-3 c = c .before .loop .inv .long-answers
+same-length-3 c = c .before .loop .inv .long-free
+
+same-length-4 : tie.Need-same-length-4 Inv-loop μ-loop
+same-length-4 c = c .before .loop .inv .long-answers
 
 returns-5 : tie.Need-returns-5 Inv-loop μ-loop
 returns-5 c =
@@ -187,4 +192,4 @@ replay-spec =
     tie.close
     (tie.spec Inv-loop μ-loop (search needs) returns starts-of-requires lent-ok-requires returns-2 (search needs) returns-3 returns-4 loop-holds
     (search needs) (search needs) (search needs) (search needs) (search needs) (search needs) read-call-requires perform-requires (search needs)
-    mul-answers (λ c. search needs) add-i (λ c. search needs) loop-again same-length same-length-2 same-length-3 returns-5)
+    mul-answers (λ c. search needs) add-i (λ c. search needs) loop-again same-length same-length-2 same-length-3 same-length-4 returns-5)

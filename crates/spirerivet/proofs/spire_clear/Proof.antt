@@ -6,7 +6,7 @@ use Rattle.spirerivet.proofs.spire_clear.Statement.{statement}
 use Rattle.spirerivet.proofs.spire_clear.Tie as tie
 
 returns : tie.Need-returns
-returns c = λ ledger. told-call (c .numbers .ensures) (c .before .before .before .clear .ensures ledger)
+returns c = λ t. told-call (c .numbers .ensures) (c .before .before .before .clear .ensures t)
 
 pub spire-clear-spec : {M : Type 1} → statement M
 spire-clear-spec = tie.close (tie.spec (search needs) (search needs) (search needs) returns)

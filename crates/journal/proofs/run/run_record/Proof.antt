@@ -12,7 +12,7 @@ use Rattle.journal.proofs.run.run_record.Tie as tie
 
 -- the start, from where the record is read
 abbrev start : tie.After-read-record → tie.Start
-start c = c .before .before .before .before .before .before .before .before
+start c = let lent = c .before .before .before in lent .before .before .before .before .before .before
 
 -- where it is read, from where it is known to be good
 abbrev reader : tie.After-read → tie.After-read-record
@@ -27,14 +27,14 @@ places-in-requires : tie.Need-places-in-requires
 places-in-requires c κs = let g = good-record _ (good (c .before) .is) in omega (arith, g .least, g .within)
 
 perform-requires : tie.Need-perform-requires
-perform-requires c κs = let found = c .before .before .before .before in let s = start (reader found) in (s .pre .0, s .pre .1)
+perform-requires c κs = let found = c .before .before .before .before .before in let s = start (reader found) in (s .pre .0, s .pre .1)
 
 returns : tie.Need-returns
 returns c =
     let copied = c .before .before in
     let answered = copied .before .before .before in
-    let performed = answered .before .before .before .before .before in
-    let placed = performed .before .before .before in
+    let performed = answered .before .before .before .before .before .before .before in
+    let placed = performed .before .before .before .before in
     let g = good (placed .before .before) in
     let did = performed .perform .ensures (g .law) (rw (placed .places-in .ensures) (g .says)) in
     record-done _ _ _ _ (g .is) did (answered .line .ensures) (copied .copy .ensures .0) (copied .copy .ensures .1)
@@ -51,5 +51,5 @@ pub run-record-spec : {M : Type 1} → statement M
 run-record-spec =
     tie.close
     (tie.spec (search needs) (search needs) places-in-requires perform-requires (search needs) (search needs) (search needs)
-    (search needs) (search needs) (search needs) (search needs) (search needs) (search needs) (search needs) returns (search needs)
-    returns-2)
+    (search needs) (search needs) (search needs) (search needs) (search needs) (search needs) (search needs) (search needs) returns
+    (search needs) returns-2)

@@ -1,77 +1,54 @@
--- `grant::grant_node` meets its contract: what the picker did in the node's part, told of the whole table.
+-- `grant::grant_node` meets its contract: the page is marked, the count taken down and the turn stored; or there is no page.
 -- Assumes nothing.
-use Prim.Native.Nat.{_+_, _-_}
-use mathlib.Core.Path.{_≡_}
-use native.Mathlib.Omega.{arith}
-use native.Mathlib.Nat.{add-sub-cancel-left}
-use lib.ListN.{getD}
 use borrow.Author.Needs.{needs}
-use Rattle.rules.specs.Machine.{firstPage}
-use Rattle.rules.specs.SearchOrder.{try}
+use borrow.Author.Tests.{ltb-true}
+use Rattle.rules.specs.Calls.{Tables, tablesOf}
+use Rattle.rules.specs.SearchOrder.{Try, try}
 use Rattle.records.specs.Jobs.{turnOf}
-use Rattle.pages.specs.FirstZero.{offsetOf}
-use Rattle.placement.proofs.Grants.{node-end, Picked, picked}
+use Rattle.placement.proofs.Grants.{grants-page, grants-none}
 use Rattle.placement.proofs.grant.grant_node.Statement.{statement}
 use Rattle.placement.proofs.grant.grant_node.Tie as tie
 
--- the first page of the node
-first-is : (s : tie.Start) → getD (s .args .starts .now) (s .args .node .0) 0 ≡ firstPage (s .args .counts .now) (s .args .node .0)
-first-is s = s .pre .0 .begin .at (s .args .node .0) (omega (arith, s .pre .1))
+-- the call, from the place after the page is looked for; its tables, and the node as a try
+abbrev call : tie.After-mark-page → tie.Start
+call c = c .before .before .before .before .before .before
 
-cast-end : tie.Need-cast-end
-cast-end c = omega (arith, c .shared-slice-known2 .given (c .before .before .before .before .before .before .args .node .0))
+abbrev tables : tie.Start → Tables
+tables s = tablesOf (s .args .pages .now) (s .args .jobs .now) (s .args .free .now)
 
-add-end : tie.Need-add-end
-add-end c =
-    let s = c .before .before .before .before .before .before in
-    omega (arith, first-is s, node-end (s .args .counts .now) (s .args .node .0))
+abbrev chosen : tie.Start → Try
+chosen s = try (turnOf (s .args .cursor)) (s .args .node .0)
 
-part-pick-end : tie.Need-part-pick-end
-part-pick-end c =
-    let s = c .before .before .before .before .before .before in
-    omega (arith, first-is s, node-end (s .args .counts .now) (s .args .node .0))
-
--- what the picker leaves, told of the whole table
-told : (c : tie.After-pick) →
-    let a = c .before .before .before .before .before .before .before .before .args in
-    let s = getD (a .starts .now) (a .node .0) 0 in
-    Picked (a .counts .now) (a .pages .now) (a .job) (try (turnOf (a .cursor)) (a .node .0)) s
-    (s + getD (a .counts .now) (a .node .0) 0 - s) (offsetOf (c .pick .result)) (c .pick .last .0)
-told c =
-    let start = c .before .before .before .before .before .before .before .before in
-    picked _ _ _ _ _ _ _ _ (start .pre .0 .fits) (first-is start) (add-sub-cancel-left _ _) (c .pick .ensures .0) (c .pick .ensures .1)
-
-after-requires : tie.Need-after-requires
-after-requires c κs =
-    let found = c .before .before .before .before .before in
-    let start = found .before .before .before .before .before .before .before .before in
-    let inside = rw (c .before .found .given .1) at (told found .inside) in
-    omega (arith, inside, first-is start, node-end (start .args .counts .now) (start .args .node .0), start .pre .0 .pages)
-
+-- the node has a free page
 returns : tie.Need-returns
 returns c =
-    let t = told (c .before .before .before .before .before .before) in
-    let e = c .before .before .found .given .1 in
-    record { answer = rw (c .after .ensures) (rw e at (t .answer)); table = rw (c .after .ensures) (rw e at (t .table)) }
+    let stored = c .before .before in
+    let taken = stored .before .before .before .before .before in
+    let looked = taken .before .before .before .before in
+    let s = call looked in
+    rw (looked .mark-page .ensures .1, taken .marked .given .1, stored .store-cursor .ensures)
+    (grants-page _ (tables s) (s .args .job) (chosen s) (rw (taken .marked .given .1) at (looked .mark-page .ensures .0)))
 
+-- it has none
 returns-2 : tie.Need-returns-2
 returns-2 c =
-    let t = told (c .before .before .before .before) in
-    let e = c .enum-told .given .1 in
-    record { answer = rw e at (t .answer); table = rw e at (t .table) }
+    let looked = c .before .before .before .before in
+    let s = call looked in
+    rw (looked .mark-page .ensures .1, c .enum-told .given .1)
+    (grants-none _ (tables s) (s .args .job) (chosen s) (rw (c .enum-told .given .1) at (looked .mark-page .ensures .0)))
+
+store-cursor-requires : tie.Need-store-cursor-requires
+store-cursor-requires c κs = ltb-true _ _ (call (c .before .before .before .before .before .before .before .before) .pre .1)
 
 pub grant-node-spec : {M : Type 1} → statement M
 grant-node-spec =
     tie.close
     (tie.spec
-    (search needs) (search needs) (search needs) (search needs) (search needs) (search needs)
-    cast-end
-    add-end
-    (search needs) (search needs)
-    part-pick-end
-    (search needs) (search needs) (search needs)
-    after-requires
-    (search needs) (search needs)
+    (search needs)
+    (λ c κs. let s = c .before .before .before .before .before in (s .pre .0, s .pre .2 .node))
+    (search needs) (search needs) (search needs) (search needs) (search needs) (search needs) (search needs)
+    store-cursor-requires
+    (search needs) (search needs) (search needs) (search needs)
     returns
     (search needs)
     returns-2)

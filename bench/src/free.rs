@@ -1,0 +1,131 @@
+//! The free counts, and the choice of a node by them.
+
+use crate::map::{Map, Starts};
+use crate::record::Record;
+
+/// One count for each node, as lent. Where KEPT, the mask is that of the nodes counted above 0; else it says nothing.
+pub struct Free<'a, const KEPT: bool> {
+    counts: &'a mut [u32],
+    mask: u64,
+}
+
+/// Counts for one call, which may be others at the next: no more of them is looked at than is needed.
+pub type Lent<'a> = Free<'a, false>;
+/// Counts for a run of calls: no other hand is on them meanwhile.
+pub type Kept<'a> = Free<'a, true>;
+
+/// The nodes counted above 0, by eights: the counts become bytes of 0 and 1, and a product gathers these to eight bits.
+fn counted(counts: &[u32]) -> u64 {
+    let (eights, rest) = counts.as_chunks();
+    let highest = rest.iter().rev().fold(0, |mask, count| mask << 1 | u64::from(*count != 0));
+    eights.iter().rev().fold(highest, |mask, eight: &[u32; 8]| {
+        let bytes = eight.map(|count| u8::from(count != 0));
+        mask << 8 | u64::from_le_bytes(bytes).wrapping_mul(0x0102_0408_1020_4080) >> 56
+    })
+}
+
+impl<'a, const KEPT: bool> Free<'a, KEPT> {
+    /// None if there is not one count for each node.
+    pub fn new(counts: &'a mut [u32], nodes: usize) -> Option<Self> {
+        if counts.len() != nodes {
+            return None;
+        }
+        let mask = if KEPT { counted(counts) } else { 0 };
+        Some(Free { counts, mask })
+    }
+
+    /// Is this one of the nodes counted above 0?
+    fn has(&self, node: usize) -> bool {
+        match KEPT {
+            true => node < 64 && self.mask >> node & 1 == 1,
+            false => self.counts.get(node).is_some_and(|count| *count != 0),
+        }
+    }
+
+    /// The first node of near(x) among these that is counted above 0.
+    pub fn near(&self, map: &Map, among: u64, x: usize) -> Option<usize> {
+        if among >> x & 1 == 1 && self.has(x) {
+            return Some(x);
+        }
+        map.nearest(among & if KEPT { self.mask } else { counted(self.counts) }, x)
+    }
+
+    /// The node that a place names, if it is allowed and counted above 0.
+    pub fn place(&self, record: Record, place: u64) -> Option<usize> {
+        let node = usize::from(record.place(place as usize));
+        (self.has(node) && record.allowed() >> node & 1 == 1).then_some(node)
+    }
+
+    /// The first place with such a node, from one on and once round; gives the node too.
+    pub fn round(&self, record: Record, from: u64) -> Option<(u64, usize)> {
+        let mut place = from;
+        for _ in 0..record.length() {
+            if place >= record.length() {
+                place = 0;
+            }
+            if let Some(node) = self.place(record, place) {
+                return Some((place, node));
+            }
+            place += 1;
+        }
+        None
+    }
+
+    /// A page of a node counted above 0 is free no more.
+    pub fn take(&mut self, node: usize) {
+        let count = &mut self.counts[node];
+        *count -= 1;
+        self.mask &= !(u64::from(*count == 0) << node);
+    }
+
+    /// A page more of a node is free; false, and nothing is done, where that would be more than it has.
+    pub fn give(&mut self, node: usize, pages: u32) -> bool {
+        let count = &mut self.counts[node];
+        if *count >= pages {
+            return false;
+        }
+        *count += 1;
+        self.mask |= 1 << node;
+        true
+    }
+
+    /// Every page is free.
+    pub fn give_all(&mut self, starts: &Starts) {
+        for (count, ends) in self.counts.iter_mut().zip(starts.windows(2)) {
+            *count = ends[1] - ends[0];
+        }
+        self.mask = counted(self.counts);
+    }
+}
+
+#[cfg(test)]
+mod tests {
+    use super::*;
+
+    #[test]
+    fn every_set_of_counted_nodes_has_its_mask() {
+        for nodes in 0..=64 {
+            for mask in [0, u64::MAX, 0x5555_5555_5555_5555, 0x8000_0000_0000_0001, 0x0123_4567_89AB_CDEF] {
+                let mask = if nodes < 64 { mask & ((1 << nodes) - 1) } else { mask };
+                let counts: Vec<u32> =
+                    (0..nodes).map(|node| (mask >> node & 1) as u32 * (u32::MAX >> (node % 32))).collect();
+                assert_eq!(counted(&counts), mask, "{nodes} nodes");
+            }
+        }
+    }
+
+    #[test]
+    fn the_mask_follows_the_counts() {
+        let (mut counts, mut starts) = ([2, 0, 1, 0], [0; 65]);
+        starts[1..5].copy_from_slice(&[2, 3, 4, 4]);
+        let mut free = Kept::new(&mut counts, 4).expect("a count for each node");
+        assert_eq!(free.mask, 0b101);
+        free.take(2);
+        free.take(0);
+        assert_eq!(free.mask, 0b001);
+        assert!(free.give(1, 1) && !free.give(1, 1) && !free.give(3, 0));
+        assert_eq!(free.mask, 0b011);
+        free.give_all(&starts);
+        assert_eq!((free.mask, counts), (0b111, [2, 1, 1, 0]));
+    }
+}
