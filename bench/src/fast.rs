@@ -2,6 +2,7 @@
 //! The calls named `.._at` are made on tables that are known to be in order.
 
 use crate::free::{Free, Lent};
+use crate::hints::{First, Hints};
 use crate::map::{find_starts, jobs_ok, node_of, Map, Starts};
 use crate::masks::{below, folded, remapped};
 use crate::record::Record;
@@ -36,6 +37,7 @@ pub fn request_at<const KEPT: bool>(
     pages: &mut [u8],
     jobs: &mut Jobs,
     free: &mut Free<KEPT>,
+    hints: &mut impl Hints,
     job: usize,
     cpu: usize,
 ) -> Out {
@@ -65,10 +67,11 @@ pub fn request_at<const KEPT: bool>(
         }
     };
     let Some(node) = chosen else { return refused(8) };
-    let Some(page) = map.page(pages, node) else { return refused(14) };
+    let Some(page) = map.page(pages, node, hints.hint(map.starts, node)) else { return refused(14) };
     words[0] = words[0] & !(255 << 24) | cursor << 24;
     pages[page] = job as u8 + 1;
     free.take(node);
+    hints.take(node, page);
     Out { refusal: 0, node: node as u8, page: page as u32 }
 }
 
@@ -79,6 +82,7 @@ pub fn release_at<const KEPT: bool>(
     pages: &mut [u8],
     jobs: usize,
     free: &mut Free<KEPT>,
+    hints: &mut impl Hints,
     job: usize,
     page: usize,
 ) -> Out {
@@ -93,13 +97,21 @@ pub fn release_at<const KEPT: bool>(
         return refused(14);
     }
     pages[page] = 0;
+    hints.give(node, page);
     Out { refusal: 0, node: node as u8, page: page as u32 }
 }
 
 /// Fresh.
-pub fn fresh_at<const KEPT: bool>(starts: &Starts, nodes: usize, pages: &mut [u8], free: &mut Free<KEPT>) -> Out {
+pub fn fresh_at<const KEPT: bool>(
+    starts: &Starts,
+    nodes: usize,
+    pages: &mut [u8],
+    free: &mut Free<KEPT>,
+    hints: &mut impl Hints,
+) -> Out {
     pages[..starts[nodes] as usize].fill(0);
     free.give_all(starts);
+    hints.give_all(starts);
     DONE
 }
 
@@ -177,7 +189,7 @@ pub fn request(
     let mut starts = [0; 65];
     let map = Map::new(&mut starts, counts, cpus, distances, pages.len(), jobs.len());
     match (map, Lent::new(free, counts.len())) {
-        (Some(map), Some(mut free)) => request_at(&map, pages, jobs.as_chunks_mut().0, &mut free, job, cpu),
+        (Some(map), Some(mut free)) => request_at(&map, pages, jobs.as_chunks_mut().0, &mut free, &mut First, job, cpu),
         _ => refused(1),
     }
 }
@@ -187,7 +199,7 @@ pub fn release(counts: &[u32], pages: &mut [u8], jobs: &[u64], free: &mut [u32],
     let mut starts = [0; 65];
     match Lent::new(free, counts.len()) {
         Some(mut free) if find_starts(&mut starts, counts, pages.len()) && jobs_ok(jobs.len()) => {
-            release_at(&starts, counts.len(), pages, jobs.len() / 6, &mut free, job, page)
+            release_at(&starts, counts.len(), pages, jobs.len() / 6, &mut free, &mut First, job, page)
         }
         _ => refused(1),
     }
@@ -198,7 +210,7 @@ pub fn fresh(counts: &[u32], pages: &mut [u8], free: &mut [u32]) -> Out {
     let mut starts = [0; 65];
     match Lent::new(free, counts.len()) {
         Some(mut free) if find_starts(&mut starts, counts, pages.len()) => {
-            fresh_at(&starts, counts.len(), pages, &mut free)
+            fresh_at(&starts, counts.len(), pages, &mut free, &mut First)
         }
         _ => refused(1),
     }

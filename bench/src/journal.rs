@@ -4,6 +4,7 @@ use std::io::{Read, Result, Write};
 
 use crate::fast::{clear_at, install_at, rebind_at, refused, release_at, request_at, Jobs, Out};
 use crate::free::Kept;
+use crate::hints::{Hints, InList};
 use crate::map::Map;
 
 /// The longest machine record: 16 nodes and 64 CPUs.
@@ -72,10 +73,10 @@ fn run_records(nodes: usize, cpus: usize, tables: &[u8], input: &mut impl Read, 
     let (Some(map), Some(mut free)) = (map, Kept::new(&mut free, nodes)) else {
         return output.write_all(&answer(BROKEN, refused(1)));
     };
-    let (mut part, mut answers) = (vec![0; PART], vec![0; ANSWERS]);
+    let (mut hints, mut part, mut answers) = (InList::of(map.starts), vec![0; PART], vec![0; ANSWERS]);
     loop {
         let size = read_full(input, &mut part)?;
-        let (written, more) = run_part(&map, &mut pages, &mut jobs, &mut free, &part[..size], &mut answers);
+        let (written, more) = run_part(&map, &mut pages, &mut jobs, &mut free, &mut hints, &part[..size], &mut answers);
         output.write_all(&answers[..written])?;
         if !more || size < PART {
             return Ok(());
@@ -89,13 +90,14 @@ fn run_part(
     pages: &mut [u8],
     jobs: &mut Jobs,
     free: &mut Kept,
+    hints: &mut InList,
     part: &[u8],
     answers: &mut [u8],
 ) -> (usize, bool) {
     let mut written = 0;
     for (record, bytes) in part.chunks(32).zip(answers.as_chunks_mut().0) {
         written += 12;
-        match call(map, pages, jobs, free, record) {
+        match call(map, pages, jobs, free, hints, record) {
             Some(out) => *bytes = answer(record[2], out),
             None => {
                 *bytes = answer(BROKEN, refused(13));
@@ -107,7 +109,14 @@ fn run_part(
 }
 
 /// Makes the call of a record, read as four words; none if it is short or damaged.
-fn call(map: &Map, pages: &mut [u8], jobs: &mut Jobs, free: &mut Kept, record: &[u8]) -> Option<Out> {
+fn call(
+    map: &Map,
+    pages: &mut [u8],
+    jobs: &mut Jobs,
+    free: &mut Kept,
+    hints: &mut InList,
+    record: &[u8],
+) -> Option<Out> {
     let &[head, mask, low, high] = record.as_chunks().0 else { return None };
     let [head, mask, low, high] = [head, mask, low, high].map(u64::from_le_bytes);
     let (kind, job, nodes) = (head >> 16 & 255, (head >> 24 & 255) as usize, map.nodes);
@@ -123,8 +132,8 @@ fn call(map: &Map, pages: &mut [u8], jobs: &mut Jobs, free: &mut Kept, record: &
         return None;
     }
     match kind {
-        1 => return Some(request_at(map, pages, jobs, free, job, (head >> 32) as usize)),
-        2 => return Some(release_at(map.starts, nodes, pages, jobs.len(), free, job, mask as usize)),
+        1 => return Some(request_at(map, pages, jobs, free, hints, job, (head >> 32) as usize)),
+        2 => return Some(release_at(map.starts, nodes, pages, jobs.len(), free, hints, job, mask as usize)),
         _ => {}
     }
     let Some(words) = jobs.get_mut(job) else { return Some(refused(2)) };

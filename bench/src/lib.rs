@@ -4,6 +4,7 @@
 
 pub mod fast;
 mod free;
+mod hints;
 pub mod journal;
 pub mod journals;
 pub mod list;

@@ -2,15 +2,16 @@
 
 use crate::fast::{clear_at, fresh_at, install_at, rebind_at, refused, release_at, request_at, Jobs, Out};
 use crate::free::Kept;
+use crate::hints::{Hints, InList};
 use crate::map::Map;
 
 /// Makes one call.
-fn call(map: &Map, pages: &mut [u8], jobs: &mut Jobs, free: &mut Kept, call: &[u64; 16]) -> Out {
+fn call(map: &Map, pages: &mut [u8], jobs: &mut Jobs, free: &mut Kept, hints: &mut InList, call: &[u64; 16]) -> Out {
     let (job, nodes) = (call[1] as usize, map.nodes);
     match call[0] {
-        1 => return request_at(map, pages, jobs, free, job, call[2] as usize),
-        2 => return release_at(map.starts, nodes, pages, jobs.len(), free, job, call[2] as usize),
-        16 => return fresh_at(map.starts, nodes, pages, free),
+        1 => return request_at(map, pages, jobs, free, hints, job, call[2] as usize),
+        2 => return release_at(map.starts, nodes, pages, jobs.len(), free, hints, job, call[2] as usize),
+        16 => return fresh_at(map.starts, nodes, pages, free, hints),
         _ => {}
     }
     let Some(words) = jobs.get_mut(job) else { return refused(2) };
@@ -48,8 +49,9 @@ pub fn replay(
         return Err(11);
     }
     let jobs = jobs.as_chunks_mut().0;
+    let mut hints = InList::of(map.starts);
     for (words, answer) in calls.iter().zip(answers.iter_mut()) {
-        *answer = call(&map, pages, jobs, &mut free, words).word();
+        *answer = call(&map, pages, jobs, &mut free, &mut hints, words).word();
     }
     Ok(calls.len())
 }

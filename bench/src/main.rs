@@ -4,13 +4,14 @@ use std::hint::black_box;
 use std::time::{Duration, Instant};
 
 use bench::fast;
-use bench::search::{lowest_zero, lowest_zero_by_bytes, lowest_zero_by_memchr};
+use bench::search::{load_all, lowest_zero, lowest_zero_by_bytes, lowest_zero_by_memchr};
 use bench::ways::{run, WAYS};
 use bench::works::{works, Work};
 use reference::calls::Tables;
 
-/// Calls are timed in pieces, so that a busy machine spoils few of them; the best time of each piece counts.
-const PIECE: usize = 256;
+/// Calls are timed in pieces, so that a busy machine spoils few of them; the best time of each piece counts. A replay is one
+/// call for each piece.
+const PIECE: usize = 1_024;
 
 fn main() {
     let rounds = std::env::args().nth(1).and_then(|rounds| rounds.parse().ok()).unwrap_or(15);
@@ -26,8 +27,8 @@ fn main() {
         println!("{}", row.line());
     }
     println!("\nThe page search: a request on one node of 65,536 pages, all held but one; nanoseconds.\n");
-    println!("| free page | request: library | Rust | ratio | blocks alone | library / blocks | memchr alone | library / memchr | byte by byte |");
-    println!("|---|---|---|---|---|---|---|---|---|");
+    println!("| free page | request: library | Rust | ratio | blocks alone | library / blocks | memchr alone | library / memchr | 16-byte loads alone | loads / memchr | byte by byte |");
+    println!("|---|---|---|---|---|---|---|---|---|---|---|");
     for place in [3, 100, 1_000, 16_000, 65_535] {
         println!("{}", search_row(place, 4 * rounds));
     }
@@ -95,7 +96,7 @@ fn search_row(place: usize, rounds: usize) -> String {
     let mut pages = vec![77; 65_536];
     let mut jobs = vec![0, 0, 1, 0, 0, 0];
     let mut free = [0];
-    let mut best = [f64::MAX; 5];
+    let mut best = [f64::MAX; 6];
     for _ in 0..rounds {
         let library = each(|| {
             (pages[place], free[0]) = (0, 1);
@@ -112,17 +113,21 @@ fn search_row(place: usize, rounds: usize) -> String {
         let memchr = each(|| {
             black_box(lowest_zero_by_memchr(black_box(&pages)));
         });
+        let loads = each(|| load_all(black_box(&pages[..place])));
         let bytes = each(|| {
             black_box(lowest_zero_by_bytes(black_box(&pages)));
         });
-        for (least, time) in best.iter_mut().zip([library, rust, blocks, memchr, bytes]) {
+        for (least, time) in best.iter_mut().zip([library, rust, blocks, memchr, loads, bytes]) {
             *least = least.min(time);
         }
     }
-    let [library, rust, blocks, memchr, bytes] = best;
+    let [library, rust, blocks, memchr, loads, bytes] = best;
     let ratios = [rust, blocks, memchr].map(|time| library / time);
     format!(
-        "| {place} | {library:.1} | {rust:.1} | {:.2} | {blocks:.1} | {:.2} | {memchr:.1} | {:.2} | {bytes:.1} |",
-        ratios[0], ratios[1], ratios[2]
+        "| {place} | {library:.1} | {rust:.1} | {:.2} | {blocks:.1} | {:.2} | {memchr:.1} | {:.2} | {loads:.1} | {:.2} | {bytes:.1} |",
+        ratios[0],
+        ratios[1],
+        ratios[2],
+        loads / memchr
     )
 }

@@ -77,9 +77,9 @@ impl<'a> Map<'a> {
         (least < 255 << 8).then_some(usize::from(least & 255))
     }
 
-    /// The lowest free page of a node.
-    pub fn page(&self, pages: &[u8], node: usize) -> Option<usize> {
-        let (start, end) = (self.starts[node] as usize, self.starts[node + 1] as usize);
+    /// The lowest free page of a node; all before the hint are held.
+    pub fn page(&self, pages: &[u8], node: usize, hint: u32) -> Option<usize> {
+        let (start, end) = (hint as usize, self.starts[node + 1] as usize);
         lowest_free(&pages[start..end]).map(|page| start + page)
     }
 }

@@ -12,8 +12,11 @@ fn lowest_in(block: &[u8]) -> usize {
     usize::from(places.fold(length, u8::min))
 }
 
-/// The place of the lowest zero: blocks of 128, then of 16, then inside one of 16.
+/// The place of the lowest zero: the first byte, then blocks of 128, then of 16, then inside one of 16.
 pub fn lowest_zero(bytes: &[u8]) -> Option<usize> {
+    if bytes.first() == Some(&0) {
+        return Some(0);
+    }
     let mut at = 0;
     for size in [128, 16] {
         for block in bytes[at..].chunks_exact(size) {
@@ -33,6 +36,7 @@ pub fn lowest_zero_by_bytes(bytes: &[u8]) -> Option<usize> {
     bytes.iter().position(|byte| *byte == 0)
 }
 
+/// What is not plain Rust.
 #[allow(unsafe_code)]
 mod c {
     extern "C" {
@@ -45,8 +49,31 @@ mod c {
         let found = unsafe { memchr(bytes.as_ptr(), 0, bytes.len()) };
         (!found.is_null()).then(|| found as usize - bytes.as_ptr() as usize)
     }
+
+    /// Loads all bytes, 16 at a time, and does nothing with them: no search with such loads takes less. Blocks of 128 only.
+    pub fn load_all(bytes: &[u8]) {
+        for block in bytes.chunks_exact(128) {
+            // SAFETY: the eight loads read the 128 bytes of the block and change no memory.
+            unsafe {
+                std::arch::asm!(
+                    "movdqu xmm0, [{0}]",
+                    "movdqu xmm1, [{0} + 16]",
+                    "movdqu xmm2, [{0} + 32]",
+                    "movdqu xmm3, [{0} + 48]",
+                    "movdqu xmm4, [{0} + 64]",
+                    "movdqu xmm5, [{0} + 80]",
+                    "movdqu xmm6, [{0} + 96]",
+                    "movdqu xmm7, [{0} + 112]",
+                    in(reg) block.as_ptr(),
+                    out("xmm0") _, out("xmm1") _, out("xmm2") _, out("xmm3") _,
+                    out("xmm4") _, out("xmm5") _, out("xmm6") _, out("xmm7") _,
+                    options(nostack, readonly, preserves_flags),
+                );
+            }
+        }
+    }
 }
-pub use c::lowest_zero_by_memchr;
+pub use c::{load_all, lowest_zero_by_memchr};
 
 // What the careful Rust searches by.
 #[cfg(feature = "blocks")]

@@ -8,6 +8,7 @@ ghost use Rattle.rules.specs.Machine.{Machine};
 ghost use Rattle.rules.specs.Calls.{Tables, tablesOf, requestTablesOk};
 ghost use Rattle.rules.specs.Journal.{machineIn};
 ghost use Rattle.machine.specs.Tables.{machineOf, Starts};
+ghost use Rattle.placement.specs.Hints.{Hints};
 ghost use Rattle.journal.specs.Opening.{Opened};
 ghost use Rattle.journal.specs.Parts.{answerSize, runOf, isReady, oneRecord, putInto, onPart};
 ghost use Rattle.journal.specs.Passes.{passed};
@@ -38,6 +39,7 @@ pub struct Part {
 fn run_record(
     counts: &[u32],
     starts: &[u32; MOST_NODES + 1],
+    hints: &mut [u32; MOST_NODES + 1],
     cpus: &[u8],
     distances: &[u8],
     pages: &mut [u8],
@@ -46,8 +48,9 @@ fn run_record(
     input: &[u8],
     output: &mut [u8],
 ) -> Part
-    requires { ⌜ (requestTablesOk (machineOf (now counts) (now cpus) (now distances)) (tablesOf (now pages) (now jobs) (now free)) ≡ true) × Starts (now counts) (now starts) × (answerSize ≤ length (now output)) ⌝ }
-    ensures { λ r. ⌜ passed r (tablesOf (now (pages .exit)) (now (jobs .exit)) (now (free .exit))) (now (output .exit)) ≡ putInto (now (output .entry)) (oneRecord (machineOf (now (counts .entry)) (now (cpus .entry)) (now (distances .entry))) (tablesOf (now (pages .entry)) (now (jobs .entry)) (now (free .entry))) (now (input .entry))) ⌝ }
+    requires { ⌜ (requestTablesOk (machineOf (now counts) (now cpus) (now distances)) (tablesOf (now pages) (now jobs) (now free)) ≡ true) × Starts (now counts) (now starts) × (answerSize ≤ length (now output)) × Hints (now counts) (now pages) (now hints) ⌝ }
+    ensures did { λ r. ⌜ passed r (tablesOf (now (pages .exit)) (now (jobs .exit)) (now (free .exit))) (now (output .exit)) ≡ putInto (now (output .entry)) (oneRecord (machineOf (now (counts .entry)) (now (cpus .entry)) (now (distances .entry))) (tablesOf (now (pages .entry)) (now (jobs .entry)) (now (free .entry))) (now (input .entry))) ⌝ }
+    ensures kept { λ r. ⌜ Hints (now (counts .entry)) (now (pages .exit)) (now (hints .exit)) ⌝ }
 {
     let read = read_record(input);
     match read {
@@ -56,6 +59,7 @@ fn run_record(
             let answer = book::perform(
                 counts,
                 starts,
+                hints,
                 cpus,
                 distances,
                 pages,
@@ -93,6 +97,7 @@ fn ready(input: &[u8], ended: bool) -> bool
 fn run_records(
     counts: &[u32],
     starts: &[u32; MOST_NODES + 1],
+    hints: &mut [u32; MOST_NODES + 1],
     cpus: &[u8],
     distances: &[u8],
     pages: &mut [u8],
@@ -102,7 +107,7 @@ fn run_records(
     ended: bool,
     output: &mut [u8],
 ) -> Part
-    requires { ⌜ (requestTablesOk (machineOf (now counts) (now cpus) (now distances)) (tablesOf (now pages) (now jobs) (now free)) ≡ true) × Starts (now counts) (now starts) ⌝ }
+    requires { ⌜ (requestTablesOk (machineOf (now counts) (now cpus) (now distances)) (tablesOf (now pages) (now jobs) (now free)) ≡ true) × Starts (now counts) (now starts) × Hints (now counts) (now pages) (now hints) ⌝ }
     ensures { λ r. ⌜ passed r (tablesOf (now (pages .exit)) (now (jobs .exit)) (now (free .exit))) (now (output .exit)) ≡ onPart (machineOf (now (counts .entry)) (now (cpus .entry)) (now (distances .entry))) (tablesOf (now (pages .entry)) (now (jobs .entry)) (now (free .entry))) (now (input .entry)) ended (now (output .entry)) ⌝ }
 {
     let mut at = 0;
@@ -111,6 +116,7 @@ fn run_records(
         let one = run_record(
             counts,
             starts,
+            hints,
             cpus,
             distances,
             pages,
@@ -156,9 +162,11 @@ pub fn run_part(
     let cpus = cpu_bytes(opening);
     let distances = distance_bytes(opening);
     let starts = machine::starts_of(counts);
+    let mut hints = starts;
     run_records(
         counts,
         &starts,
+        &mut hints,
         cpus,
         distances,
         pages,

@@ -7,6 +7,7 @@ use lib.ListN.{length, getD}
 use lib.Dec.{eqb}
 use Rattle.rules.specs.Basics.{all, from}
 use Rattle.rules.specs.Machine.{Machine, firstPage}
+use Rattle.rules.specs.Masks.{mostNodes}
 
 -- "The machine": the machine of three lent tables
 abbrev pub machineOf : List ℕ → List ℕ → List ℕ → Machine
@@ -14,6 +15,7 @@ machineOf counts cpus distances = record { pageCounts = counts; cpuNodes = cpus;
 
 -- "Pages are numbered through: node 0 first, then node 1": a table of each node's first page, and of where the last one's pages end
 pub record Starts (counts starts : List ℕ) : Type 0 where
+  pub long : length starts ≡ mostNodes + 1
   pub at : (n : ℕ) → n ≤ length counts → getD starts n 0 ≡ firstPage counts n
 
 -- "10 on the diagonal": in row i

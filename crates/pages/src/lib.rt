@@ -2,11 +2,12 @@
 
 ghost use mathlib.Core.Path.{_≡_};
 ghost use mathlib.Core.Bool.{cond};
-ghost use Prim.Native.Nat.{_+_, _^_, _≤_, _<_, min};
+ghost use Prim.Native.Nat.{_+_, _^_, _≤_, _<_};
 ghost use lib.Dec.{eqb};
-ghost use lib.ListN.{length, drop};
+ghost use lib.ListN.{length, drop, getD};
 ghost use Rattle.pages.specs.FirstZero.{offsetOf, shift, firstZero, mark, hasZero, zeroOrEnd};
 use rules::Page;
+use rules::lower;
 
 // How far a page stands from the first page of its part.
 pub struct Offset(pub usize);
@@ -79,16 +80,6 @@ fn index_of_zero(byte: u8, index: u8, none: u8) -> u8
     none
 }
 
-// The lower of two indices.
-fn lower(a: u8, b: u8) -> u8
-    ensures { λ r. ⌜ r ≡ min a b ⌝ }
-{
-    if a < b {
-        return a;
-    }
-    b
-}
-
 // The index of the lowest 0 of a block, or its length. There is no early exit, so that it is compiled to vectors.
 fn lowest_zero(block: &[u8]) -> usize
     requires { ⌜ length (now block) ≤ 16 ⌝ }
@@ -104,11 +95,25 @@ fn lowest_zero(block: &[u8]) -> usize
     lowest as usize
 }
 
+// Is the first byte 0?
+fn begins_free(part: &[u8]) -> bool
+    ensures { λ r. ⌜ r ≡ eqb (getD (now (part .entry)) 0 1) 0 ⌝ }
+{
+    if part.len() == 0 {
+        return false;
+    }
+    part[0] == 0
+}
+
 // Marks the lowest free page of the part with its holder's byte.
 pub fn pick(part: &mut [u8], holder: u8) -> Found
     ensures answer { λ r. ⌜ offsetOf r ≡ firstZero (now (part .entry)) ⌝ }
     ensures table { λ r. ⌜ now (part .exit) ≡ mark (now (part .entry)) (firstZero (now (part .entry))) holder ⌝ }
 {
+    if begins_free(part) {
+        part[0] = holder;
+        return Found::At(Offset(0));
+    }
     let wide = skip(part, 0, 128);
     let narrow = skip(part, wide, 16);
     let mut i = narrow;

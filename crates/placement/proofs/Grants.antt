@@ -2,13 +2,13 @@
 -- Assumes nothing.
 use Prim.Native.Nat.{ℕ, zero, suc, _+_, _-_, _≤_, _<_}
 use mathlib.Core.Path.{_≡_, refl, sym, ap, _∙_}
-use mathlib.Core.Bool.{Bool, true, false, not, cond}
+use mathlib.Core.Bool.{true, false, not, cond}
 use mathlib.Core.List.{List, [], _∷_, _++_}
 use mathlib.Core.Option.{Option, none, some}
-use native.Mathlib.Nat.{add-zero}
+use native.Mathlib.Nat.{add-zero, zero-add, add-suc, suc-add}
 use native.Mathlib.Numerals.{add-one}
 use native.Mathlib.Omega.{arith}
-use borrow.Author.Tests.{ltb-true, le-leb, lt-leb}
+use borrow.Author.Tests.{ltb-true, le-leb, lt-leb, ne-eqb}
 use borrow.Rule.Slice.PartMut.{set-mid-at, put-same}
 use lib.Dec.{eqb, eqb·suc-zero}
 use lib.ListN.{length, getD, take, drop, set, length-take, length-drop}
@@ -42,6 +42,15 @@ free-part ledger (suc k) a h =
     go zero ih = ap {B = Option ℕ} some (add-zero a)
     go (suc x) ih = rw (eqb·suc-zero x, shift-shift, add-one) ih
 
+-- held pages before some pages do not change which is the first free one
+held-front : (ledger : List ℕ) (m a k : ℕ) → ((p : ℕ) → a ≤ p → p < a + m → 0 < getD ledger p 1)
+    → first (keep (λ p. eqb (getD ledger p 1) 0) (from a (m + k))) ≡ first (keep (λ p. eqb (getD ledger p 1) 0) (from (a + m) k))
+unfolding keep first from
+held-front ledger zero a k held = rw (add-zero a, zero-add k)
+held-front ledger (suc m) a k held =
+    let taken : eqb (getD ledger a 1) 0 ≡ false = ne-eqb (getD ledger a 1) 0 (λ e. omega (arith, held a (omega arith) (omega arith))) in
+    rw (suc-add m k, taken, add-suc a m) (rw (suc-add a m) at (held-front ledger m (suc a) k (λ p l h. held p (omega arith) (omega arith))))
+
 -- an index found in a part of k bytes lies in it
 abbrev pub Within : ℕ → Option ℕ → Type 0
 Within k (some i) = i < k
@@ -74,15 +83,20 @@ pub record Picked (counts ledger : List ℕ) (n holder s k : ℕ) (f : Option �
   pub inside : Within k f
 
 pub picked : (counts ledger : List ℕ) (n holder s k : ℕ) (f : Option ℕ) (part : List ℕ) → sum counts ≤ length ledger
-    → s ≡ firstPage counts n → k ≡ getD counts n 0 → f ≡ firstZero (take k (drop s ledger))
+    → firstPage counts n ≤ s → s + k ≡ firstPage counts n + getD counts n 0
+    → ((p : ℕ) → firstPage counts n ≤ p → p < s → 0 < getD ledger p 1) → f ≡ firstZero (take k (drop s ledger))
     → part ≡ mark (take k (drop s ledger)) (firstZero (take k (drop s ledger))) holder → Picked counts ledger n holder s k f part
 unfolding freePages pagesOf
-picked counts ledger n holder s k f part fits es ek ef ep =
+picked counts ledger n holder s k f part fits after end held ef ep =
     let room : s + k ≤ length ledger = omega (arith, node-end counts n) in
     let long : length (take k (drop s ledger)) ≡ k = simp (length-take, length-drop) (omega arith) in
     let within : Within k f = rw ef (rw long at (first-within (take k (drop s ledger)))) in
+    let a = firstPage counts n in
+    let front = held-front ledger (s - a) a k (λ p l h. held p l (omega arith)) in
+    let all : s - a + k ≡ getD counts n 0 = omega arith in
+    let at : a + (s - a) ≡ s = omega arith in
     record {
-      answer = rw (ef, ← es, ← ek) (free-part ledger k s room);
+      answer = rw ef (free-part ledger k s room ∙ sym (rw (all, at) at front));
       table = rw (ep, ← ef) (marked-back ledger s k holder f room within);
       inside = within;
     }

@@ -1,7 +1,7 @@
 -- A request on tables that are in order: what its search may count on, and what the rules say once it is served.
 -- Assumes nothing.
 use Prim.Native.Nat.{ℕ}
-use mathlib.Core.Path.{_≡_, refl, sym, _∙_}
+use mathlib.Core.Path.{_≡_, sym, _∙_}
 use mathlib.Core.Bool.{true, _&&_}
 use mathlib.Core.List.{List}
 use borrow.Author.Tests.{ltb-true}
@@ -19,6 +19,7 @@ use Rattle.rules.proofs.WellFormed.{formed}
 use Rattle.machine.specs.Tables.{Starts}
 use Rattle.placement.specs.Searches.{Searchable}
 use Rattle.placement.specs.Grants.{Ready}
+use Rattle.placement.specs.Hints.{Hints}
 use Rattle.rules.proofs.InOrder.{release-ok, fresh-ok, pages-in-order}
 use Rattle.placement.proofs.InOrder.{ready}
 
@@ -43,10 +44,12 @@ module _ (m : Machine) (t : Tables) (j k : ℕ) where
       (p, cc)
 
   -- it may be served
-  pub searchable : {starts : List ℕ} {r : Record} → Passes m t j k × (r ≡ recordAt (t .records) j) → Starts (m .pageCounts) starts
+  pub searchable : {starts hints : List ℕ} {r : Record} → Passes m t j k × (r ≡ recordAt (t .records) j) → Starts (m .pageCounts) starts
+      → Hints (m .pageCounts) (t .ledger) hints
       → Ready (m .pageCounts) starts (t .ledger) j × (isJob (t .records) j ≡ true) × (length (t .free) ≡ nodeCount m)
       × Searchable (t .free) (m .distances) (r .allowed) r (nodeOfCpu (m .cpuNodes) k)
-  searchable (p, q) begin =
+      × Hints (m .pageCounts) (t .ledger) hints
+  searchable (p, q) begin hints =
       let ok = machine-ok m t (p .tablesOk) in
       let i = in-order m ok in
       let f = pages-in-order (m .pageCounts) _ _ (fresh-ok (m .pageCounts) t (release-ok m t (p .tablesOk))) .one-each in (
@@ -62,6 +65,7 @@ module _ (m : Machine) (t : Tables) (j k : ℕ) where
             formed = rw q (p .formed);
           });
         },
+        hints,
       )
 
   -- one of the tests refuses

@@ -1,4 +1,5 @@
 pub mod Plans
 pub mod Searches
 pub mod Grants
+pub mod Hints
 pub mod Admissions

@@ -12,6 +12,7 @@ ghost use Rattle.rules.specs.Answers.{answerOf};
 ghost use Rattle.pages.specs.FirstZero.{mark};
 ghost use Rattle.records.specs.Jobs.{turnOf};
 ghost use Rattle.placement.specs.Grants.{pageBy, Ready, Chose};
+ghost use Rattle.placement.specs.Hints.{Hints};
 use pages;
 use pages::Found;
 use records::table;
@@ -27,22 +28,23 @@ pub enum Marked {
     Full,
 }
 
-// Marks the lowest free page of a node for a job: the node's part of the page table, lent on to the page picker.
+// Marks the lowest free page of a node for a job: the node's part of the page table from its hint on, lent on to the page picker.
 fn mark_page(
     counts: &[u32],
     starts: &[u32; MOST_NODES + 1],
+    hints: &[u32; MOST_NODES + 1],
     pages: &mut [u8],
     node: Node,
     job: u8,
 ) -> Marked
-    requires { ⌜ Ready (now counts) (now starts) (now pages) job × (node .0 < length (now counts)) ⌝ }
+    requires { ⌜ Ready (now counts) (now starts) (now pages) job × (node .0 < length (now counts)) × Hints (now counts) (now pages) (now hints) ⌝ }
     ensures answer { λ r. ⌜ pageBy r ≡ first (freePages (now (counts .entry)) (now (pages .entry)) (node .0)) ⌝ }
     ensures table { λ r. ⌜ now (pages .exit) ≡ mark (now (pages .entry)) (pageBy r) (job + 1) ⌝ }
 {
     let n = node.0 as usize;
-    let first = Page(starts[n]);
+    let first = Page(hints[n]);
     let start = first.0 as usize;
-    let end = start + (counts[n] as usize);
+    let end = starts[n + 1] as usize;
     let found = pages::pick(&mut pages[start..end], job + 1);
     match found {
         Found::At(offset) => Marked::At(offset.after(first)),
@@ -54,6 +56,7 @@ fn mark_page(
 pub fn grant_node(
     counts: &[u32],
     starts: &[u32; MOST_NODES + 1],
+    hints: &[u32; MOST_NODES + 1],
     pages: &mut [u8],
     jobs: &mut [u64],
     free: &mut [u32],
@@ -61,10 +64,10 @@ pub fn grant_node(
     node: Node,
     cursor: u8,
 ) -> Answer
-    requires { ⌜ Ready (now counts) (now starts) (now pages) job × (isJob (now jobs) job ≡ true) × Chose (now counts) (now free) (node .0) ⌝ }
+    requires { ⌜ Ready (now counts) (now starts) (now pages) job × (isJob (now jobs) job ≡ true) × Chose (now counts) (now free) (node .0) × Hints (now counts) (now pages) (now hints) ⌝ }
     ensures { λ r. ⌜ outcome (answerOf r) (tablesOf (now (pages .exit)) (now (jobs .exit)) (now (free .exit))) ≡ applied (tablesOf (now (pages .entry)) (now (jobs .entry)) (now (free .entry))) (serve (now (counts .entry)) (tablesOf (now (pages .entry)) (now (jobs .entry)) (now (free .entry))) job (some (try (turnOf cursor) (node .0)))) ⌝ }
 {
-    let marked = mark_page(counts, starts, pages, node, job as u8);
+    let marked = mark_page(counts, starts, hints, pages, node, job as u8);
     match marked {
         Marked::At(page) => {
             let n = node.0 as usize;

@@ -2,11 +2,11 @@
 
 ghost use mathlib.Core.Bool.{true, _&&_};
 ghost use mathlib.Core.Path.{_≡_};
-ghost use Prim.Native.Nat.{_≤_};
+ghost use Prim.Native.Nat.{_<_};
+ghost use lib.Dec.{leb};
 ghost use lib.ListN.{length, replicate};
 ghost use Rattle.rules.specs.Basics.{sum};
-ghost use Rattle.rules.specs.Machine.{pageTableOk};
-ghost use Rattle.rules.specs.Masks.{mostNodes};
+ghost use Rattle.rules.specs.Machine.{nodeOfPage};
 ghost use Rattle.rules.specs.SearchOrder.{plan, order, chosen};
 ghost use Rattle.rules.specs.Calls.{Tables, tablesOf, withPages, outcome, applied, isJob, freeOk, freshTablesOk, requestTablesOk, releaseTablesOk, recordTablesOk, admitted, serve, onRequest, onRelease, onFresh};
 ghost use Rattle.rules.specs.Answers.{answerOf};
@@ -15,7 +15,9 @@ ghost use Rattle.records.specs.Jobs.{recordOf};
 ghost use Rattle.placement.specs.Admissions.{admissionOf};
 ghost use Rattle.placement.specs.Searches.{Searchable};
 ghost use Rattle.placement.specs.Grants.{Ready};
+ghost use Rattle.placement.specs.Hints.{Hints};
 use machine;
+use machine::Located;
 use records::record::Record;
 use records::table;
 use rules::Answer;
@@ -31,26 +33,18 @@ pub mod search;
 
 // ---- refusal 1
 
-// Are the page table and the free counts in order, by their lengths, on page counts that are?
-fn pages_ok(counts: &[u32], starts: &[u32; MOST_NODES + 1], bytes: usize, entries: usize) -> bool
-    requires { ⌜ (length (now counts) ≤ mostNodes) × (sum (now counts) ≤ 1048576) × Starts (now counts) (now starts) ⌝ }
-    ensures { λ r. ⌜ r ≡ (pageTableOk (now (counts .entry)) bytes && freeOk (length (now (counts .entry))) entries) ⌝ }
+// Are the page table and the free counts in order, by their lengths, for so many nodes and pages?
+fn pages_ok(nodes: usize, total: usize, bytes: usize, entries: usize) -> bool
+    ensures { λ r. ⌜ r ≡ (leb total bytes && freeOk nodes entries) ⌝ }
 {
-    machine::page_table_ok(counts, starts, bytes) & (entries == counts.len())
+    (total <= bytes) & (entries == nodes)
 }
 
 // And the job table too?
-pub fn lent_ok(
-    counts: &[u32],
-    starts: &[u32; MOST_NODES + 1],
-    bytes: usize,
-    words: usize,
-    entries: usize,
-) -> bool
-    requires { ⌜ (length (now counts) ≤ mostNodes) × (sum (now counts) ≤ 1048576) × Starts (now counts) (now starts) ⌝ }
-    ensures { λ r. ⌜ r ≡ (pageTableOk (now (counts .entry)) bytes && freeOk (length (now (counts .entry))) entries && recordTablesOk (length (now (counts .entry))) words) ⌝ }
+pub fn lent_ok(nodes: usize, total: usize, bytes: usize, words: usize, entries: usize) -> bool
+    ensures { λ r. ⌜ r ≡ (leb total bytes && freeOk nodes entries && recordTablesOk nodes words) ⌝ }
 {
-    pages_ok(counts, starts, bytes, entries) & table::tables_ok(counts.len(), words)
+    pages_ok(nodes, total, bytes, entries) & table::tables_ok(nodes, words)
 }
 
 // ---- request
@@ -93,6 +87,7 @@ pub fn admit(
 fn serve(
     counts: &[u32],
     starts: &[u32; MOST_NODES + 1],
+    hints: &[u32; MOST_NODES + 1],
     distances: &[u8],
     pages: &mut [u8],
     jobs: &mut [u64],
@@ -101,7 +96,7 @@ fn serve(
     loaded: Record,
     x: Node,
 ) -> Answer
-    requires { ⌜ Ready (now counts) (now starts) (now pages) job × (isJob (now jobs) job ≡ true) × (length (now free) ≡ length (now counts)) × Searchable (now free) (now distances) (loaded .allowed .0) (recordOf loaded) (x .0) ⌝ }
+    requires { ⌜ Ready (now counts) (now starts) (now pages) job × (isJob (now jobs) job ≡ true) × (length (now free) ≡ length (now counts)) × Searchable (now free) (now distances) (loaded .allowed .0) (recordOf loaded) (x .0) × Hints (now counts) (now pages) (now hints) ⌝ }
     ensures { λ r. ⌜ outcome (answerOf r) (tablesOf (now (pages .exit)) (now (jobs .exit)) (now (free .exit))) ≡ applied (tablesOf (now (pages .entry)) (now (jobs .entry)) (now (free .entry))) (serve (now (counts .entry)) (tablesOf (now (pages .entry)) (now (jobs .entry)) (now (free .entry))) job (chosen (now (free .entry)) (order (length (now (counts .entry))) (now (distances .entry)) (loaded .allowed .0) (plan (loaded .allowed .0) (recordOf loaded) (x .0))))) ⌝ }
 {
     let limit = loaded.allowed;
@@ -109,16 +104,17 @@ fn serve(
     let chosen = search::search(free, distances, limit, decoded, x);
     match chosen {
         Chosen::At(node, cursor) => {
-            grant::grant_node(counts, starts, pages, jobs, free, job, node, cursor)
+            grant::grant_node(counts, starts, hints, pages, jobs, free, job, node, cursor)
         }
         Chosen::Nothing => Answer::Refused(Refusal::NoRoom),
     }
 }
 
-// A request on tables that are in order.
+// A request on tables that are in order. A page is searched for from its node's hint on.
 pub fn request_at(
     counts: &[u32],
     starts: &[u32; MOST_NODES + 1],
+    hints: &[u32; MOST_NODES + 1],
     cpus: &[u8],
     distances: &[u8],
     pages: &mut [u8],
@@ -127,14 +123,25 @@ pub fn request_at(
     job: usize,
     cpu: usize,
 ) -> Answer
-    requires { ⌜ (requestTablesOk (machineOf (now counts) (now cpus) (now distances)) (tablesOf (now pages) (now jobs) (now free)) ≡ true) × Starts (now counts) (now starts) ⌝ }
+    requires { ⌜ (requestTablesOk (machineOf (now counts) (now cpus) (now distances)) (tablesOf (now pages) (now jobs) (now free)) ≡ true) × Starts (now counts) (now starts) × Hints (now counts) (now pages) (now hints) ⌝ }
     ensures { λ r. ⌜ outcome (answerOf r) (tablesOf (now (pages .exit)) (now (jobs .exit)) (now (free .exit))) ≡ onRequest (machineOf (now (counts .entry)) (now (cpus .entry)) (now (distances .entry))) (tablesOf (now (pages .entry)) (now (jobs .entry)) (now (free .entry))) job cpu ⌝ }
 {
     let admission = admit(counts, cpus, distances, pages, jobs, free, job, cpu);
     match admission {
         Admission::Passed(record) => {
             let x = Node(cpus[cpu]);
-            serve(counts, starts, distances, pages, jobs, free, job, record, x)
+            serve(
+                counts,
+                starts,
+                hints,
+                distances,
+                pages,
+                jobs,
+                free,
+                job,
+                record,
+                x,
+            )
         }
         Admission::Refused(why) => Answer::Refused(why),
     }
@@ -157,11 +164,13 @@ pub fn request(
         return Answer::Refused(Refusal::BadTables);
     }
     let starts = machine::starts_of(counts);
-    if !lent_ok(counts, &starts, pages.len(), jobs.len(), free.len()) {
+    let total = machine::pages_end(counts, &starts);
+    if !lent_ok(counts.len(), total, pages.len(), jobs.len(), free.len()) {
         return Answer::Refused(Refusal::BadTables);
     }
     request_at(
         counts,
+        &starts,
         &starts,
         cpus,
         distances,
@@ -175,7 +184,40 @@ pub fn request(
 
 // ---- release
 
-// A release on tables that are in order: one byte and one count are written, after the last test.
+// A release on tables that are in order, where the page's node is known: one byte and one count are written, after the last test.
+fn release_located(
+    counts: &[u32],
+    pages: &mut [u8],
+    jobs: &[u64],
+    free: &mut [u32],
+    job: usize,
+    page: usize,
+    at: Located,
+) -> Answer
+    requires { ⌜ (releaseTablesOk (now counts) (tablesOf (now pages) (now jobs) (now free)) ≡ true) × (at .total ≡ sum (now counts)) × (page < sum (now counts) → at .node .0 ≡ nodeOfPage (now counts) page) ⌝ }
+    ensures { λ r. ⌜ outcome (answerOf r) (tablesOf (now (pages .exit)) (now (jobs .entry)) (now (free .exit))) ≡ onRelease (now (counts .entry)) (tablesOf (now (pages .entry)) (now (jobs .entry)) (now (free .entry))) job page ⌝ }
+{
+    if !table::has_job(jobs.len(), job) {
+        return Answer::Refused(Refusal::NoSuchJob);
+    }
+    if page >= at.total {
+        return Answer::Refused(Refusal::NotHeld);
+    }
+    let holder = pages[page];
+    if holder as usize != job + 1 {
+        return Answer::Refused(Refusal::NotHeld);
+    }
+    let node = at.node;
+    let n = node.0 as usize;
+    if counts[n] <= free[n] {
+        return Answer::Refused(Refusal::WrongCount);
+    }
+    pages[page] = 0;
+    free[n] = free[n] + 1;
+    Answer::Released(node, Page(page as u32))
+}
+
+// A release on tables that are in order.
 pub fn release_at(
     counts: &[u32],
     starts: &[u32; MOST_NODES + 1],
@@ -188,29 +230,16 @@ pub fn release_at(
     requires { ⌜ (releaseTablesOk (now counts) (tablesOf (now pages) (now jobs) (now free)) ≡ true) × Starts (now counts) (now starts) ⌝ }
     ensures { λ r. ⌜ outcome (answerOf r) (tablesOf (now (pages .exit)) (now (jobs .entry)) (now (free .exit))) ≡ onRelease (now (counts .entry)) (tablesOf (now (pages .entry)) (now (jobs .entry)) (now (free .entry))) job page ⌝ }
 {
-    if !table::has_job(jobs.len(), job) {
-        return Answer::Refused(Refusal::NoSuchJob);
+    let total = machine::pages_end(counts, starts);
+    let mut node = Node(0);
+    if page < total {
+        node = machine::node_of_page(counts, starts, Page(page as u32));
     }
-    let total = starts[counts.len()] as usize;
-    if page >= total {
-        return Answer::Refused(Refusal::NotHeld);
-    }
-    let holder = pages[page];
-    if holder as usize != job + 1 {
-        return Answer::Refused(Refusal::NotHeld);
-    }
-    let freed = Page(page as u32);
-    let node = machine::node_of_page(counts, starts, freed);
-    let n = node.0 as usize;
-    if counts[n] <= free[n] {
-        return Answer::Refused(Refusal::WrongCount);
-    }
-    pages[page] = 0;
-    free[n] = free[n] + 1;
-    Answer::Released(node, freed)
+    let at = Located { node, total };
+    release_located(counts, pages, jobs, free, job, page, at)
 }
 
-// Release: a page that the job holds becomes free.
+// Release: a page that the job holds becomes free. No starts are made: one pass over the counts finds the page's node and sums them.
 pub fn release(
     counts: &[u32],
     pages: &mut [u8],
@@ -221,14 +250,15 @@ pub fn release(
 ) -> Answer
     ensures { λ r. ⌜ outcome (answerOf r) (tablesOf (now (pages .exit)) (now (jobs .entry)) (now (free .exit))) ≡ onRelease (now (counts .entry)) (tablesOf (now (pages .entry)) (now (jobs .entry)) (now (free .entry))) job page ⌝ }
 {
-    if !machine::page_counts_ok(counts) {
+    if !machine::counts_ok(counts) {
         return Answer::Refused(Refusal::BadTables);
     }
-    let starts = machine::starts_of(counts);
-    if !lent_ok(counts, &starts, pages.len(), jobs.len(), free.len()) {
+    let at = machine::locate(counts, page);
+    let fits = lent_ok(counts.len(), at.total, pages.len(), jobs.len(), free.len());
+    if !((at.total <= 1_048_576) & fits) {
         return Answer::Refused(Refusal::BadTables);
     }
-    release_at(counts, &starts, pages, jobs, free, job, page)
+    release_located(counts, pages, jobs, free, job, page, at)
 }
 
 // ---- the fresh table
@@ -266,7 +296,7 @@ pub fn fresh_at(
     requires { ⌜ (freshTablesOk (now counts) (length (now pages)) (length (now free)) ≡ true) × Starts (now counts) (now starts) ⌝ }
     ensures { λ r. ⌜ ((t : Tables) → outcome (answerOf r) (withPages t (now (pages .exit)) (now (free .exit))) ≡ onFresh (now (counts .entry)) (withPages t (now (pages .entry)) (now (free .entry)))) ⌝ }
 {
-    let total = starts[counts.len()] as usize;
+    let total = machine::pages_end(counts, starts);
     clear_bytes(&mut pages[..total]);
     copy_counts(counts, free);
     Answer::Done
@@ -280,7 +310,8 @@ pub fn fresh(counts: &[u32], pages: &mut [u8], free: &mut [u32]) -> Answer
         return Answer::Refused(Refusal::BadTables);
     }
     let starts = machine::starts_of(counts);
-    if !pages_ok(counts, &starts, pages.len(), free.len()) {
+    let total = machine::pages_end(counts, &starts);
+    if !pages_ok(counts.len(), total, pages.len(), free.len()) {
         return Answer::Refused(Refusal::BadTables);
     }
     fresh_at(counts, &starts, pages, free)

@@ -38,7 +38,8 @@ pub fn replay(
         return Decision::Refuse(Refusal::BadTables);
     }
     let starts = machine::starts_of(counts);
-    if !placement::lent_ok(counts, &starts, pages.len(), jobs.len(), free.len()) {
+    let total = machine::pages_end(counts, &starts);
+    if !placement::lent_ok(counts.len(), total, pages.len(), jobs.len(), free.len()) {
         return Decision::Refuse(Refusal::BadTables);
     }
     if !encoding::calls_ok(calls) {
@@ -48,6 +49,7 @@ pub fn replay(
     if answers.len() < n {
         return Decision::Refuse(Refusal::OutputTooShort);
     }
+    let mut hints = starts;
     let mut i = 0;
     while i < n {
         let start = CALL_WORDS * i;
@@ -58,6 +60,7 @@ pub fn replay(
         let answer = book::perform(
             counts,
             &starts,
+            &mut hints,
             cpus,
             distances,
             pages,

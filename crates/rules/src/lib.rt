@@ -2,6 +2,7 @@
 
 ghost use mathlib.Core.Path.{_≡_};
 ghost use mathlib.Core.List.{[], _∷_};
+ghost use Prim.Native.Nat.{min};
 ghost use Rattle.rules.specs.Calls.{numbers};
 ghost use Rattle.rules.specs.Answers.{numberOf, answerOf, decisionOf, numbersIn, inNumbers, numberIn};
 
@@ -25,6 +26,16 @@ pub const PLACES_PER_JOB: usize = 16;
 const NO_NODE: u8 = 0xFF;
 
 const NO_PAGE: u32 = 0xFFFF_FFFF;
+
+// The lower of two bytes: with no early exit, a pass that keeps the lowest compiles to vectors.
+pub fn lower(a: u8, b: u8) -> u8
+    ensures { λ r. ⌜ r ≡ min a b ⌝ }
+{
+    if a < b {
+        return a;
+    }
+    b
+}
 
 // Why a call was refused: document 01, "Refusal numbers", from 1 on; 14 is of request M-100.
 pub enum Refusal {

@@ -16,6 +16,7 @@ pub fn refusal_of(number: u8) -> Refusal {
 }
 
 /// A refusal returns its number alone; what was done is said by `done`.
+#[inline]
 fn answer(raw: HostAnswer, done: fn(u8, u32) -> Answer) -> Answer {
     if raw.refusal == 0 {
         return done(raw.node, raw.page);
@@ -41,6 +42,7 @@ fn number(raw: HostNumber) -> Result<u64, Refusal> {
 
 /// Takes one page for a job, by its record's search order as seen from a CPU. `free` has the number of free pages of each
 /// node and is kept up; nodes counted 0 are passed over.
+#[inline]
 pub fn request(
     counts: &[u32],
     cpus: &[u8],
@@ -56,26 +58,31 @@ pub fn request(
 }
 
 /// Gives a page back that the job holds; `free` is kept up.
+#[inline]
 pub fn release(counts: &[u32], pages: &mut [u8], jobs: &[u64], free: &mut [u32], job: usize, page: usize) -> Answer {
     answer(ffi::release(counts, pages, jobs, free, job, page), |node, page| Answer::Released { node, page })
 }
 
 /// Frees every page of the machine and makes its free counts: what a host begins with. Bytes past the last page stay.
+#[inline]
 pub fn fresh(counts: &[u32], pages: &mut [u8], free: &mut [u32]) -> Answer {
     answer(ffi::fresh(counts, pages, free), done)
 }
 
 /// Sets a job's policy: a mode of `mode`, a flag of `flag`, a user mask or places.
+#[inline]
 pub fn install(nodes: usize, jobs: &mut [u64], job: usize, mode: u64, flag: u64, mask: u64, places: &[u8]) -> Answer {
     answer(ffi::install(nodes, jobs, job, mode, flag, mask, places), done)
 }
 
 /// Sets the nodes that a job may use.
+#[inline]
 pub fn rebind(nodes: usize, jobs: &mut [u64], job: usize, allowed: u64) -> Answer {
     answer(ffi::rebind(nodes, jobs, job, allowed), done)
 }
 
 /// Makes a job's record fresh; the pages it holds stay held.
+#[inline]
 pub fn clear(nodes: usize, jobs: &mut [u64], job: usize) -> Answer {
     answer(ffi::clear(nodes, jobs, job), done)
 }

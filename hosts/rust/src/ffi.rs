@@ -53,6 +53,7 @@ extern "C" {
     fn spire_journal(input: *const u8, input_len: usize, output: *mut u8, output_len: usize) -> HostNumber;
 }
 
+#[inline]
 #[rustfmt::skip]
 pub fn request(
     counts: &[u32], cpus: &[u8], distances: &[u8], pages: &mut [u8], jobs: &mut [u64], free: &mut [u32],
@@ -66,6 +67,7 @@ pub fn request(
     }
 }
 
+#[inline]
 #[rustfmt::skip]
 pub fn release(
     counts: &[u32], pages: &mut [u8], jobs: &[u64], free: &mut [u32], job: usize, page: usize,
@@ -78,6 +80,7 @@ pub fn release(
     }
 }
 
+#[inline]
 #[rustfmt::skip]
 pub fn fresh(counts: &[u32], pages: &mut [u8], free: &mut [u32]) -> HostAnswer {
     unsafe {
@@ -87,6 +90,7 @@ pub fn fresh(counts: &[u32], pages: &mut [u8], free: &mut [u32]) -> HostAnswer {
     }
 }
 
+#[inline]
 #[rustfmt::skip]
 pub fn install(
     nodes: usize, jobs: &mut [u64], job: usize, mode: u64, flag: u64, mask: u64, places: &[u8],
@@ -98,10 +102,12 @@ pub fn install(
     }
 }
 
+#[inline]
 pub fn rebind(nodes: usize, jobs: &mut [u64], job: usize, allowed: u64) -> HostAnswer {
     unsafe { spire_rebind(nodes, jobs.as_mut_ptr(), jobs.len(), job, allowed) }
 }
 
+#[inline]
 pub fn clear(nodes: usize, jobs: &mut [u64], job: usize) -> HostAnswer {
     unsafe { spire_clear(nodes, jobs.as_mut_ptr(), jobs.len(), job) }
 }

@@ -1,10 +1,9 @@
 -- `perform` is the book's step, call by call.
 -- Assumes nothing.
-use mathlib.Core.Path.{_≡_, refl}
-use mathlib.Core.Bool.{true}
+use mathlib.Core.Path.{refl}
 use borrow.Author.Needs.{needs}
 use Rattle.rules.specs.Machine.{Machine}
-use Rattle.rules.specs.Calls.{Tables, tablesOf, requestTablesOk}
+use Rattle.rules.specs.Calls.{Tables, tablesOf}
 use Rattle.rules.proofs.InOrder.{release-ok, fresh-ok, record-ok}
 use Rattle.machine.specs.Tables.{machineOf}
 use Rattle.book.proofs.Steps.{did-request, did-release, did-rebind, did-install, did-clear, did-fresh}
@@ -21,8 +20,10 @@ machine s = machineOf (s .args .counts .now) (s .args .cpus .now) (s .args .dist
 abbrev tables : tie.Start → Tables
 tables s = tablesOf (s .args .pages .now) (s .args .jobs .now) (s .args .free .now)
 
-release-at-requires : tie.Need-release-at-requires
-release-at-requires c κs = let s = start (c .before .before .before .before .before .before) in (release-ok (machine s) (tables s) (s .pre .0), s .pre .1)
+release-requires : tie.Need-release-requires
+release-requires c κs =
+    let s = start (c .before .before .before .before .before .before .before) in
+    (release-ok (machine s) (tables s) (s .pre .0), s .pre .1, s .pre .2)
 
 rebind-at-requires : tie.Need-rebind-at-requires
 rebind-at-requires c κs = let s = start (c .before .before .before .before) in record-ok (machine s) (tables s) (s .pre .0)
@@ -33,44 +34,51 @@ install-at-requires c κs = let s = start (c .before .before .before .before) in
 clear-at-requires : tie.Need-clear-at-requires
 clear-at-requires c κs = let s = start (c .before .before .before .before) in record-ok (machine s) (tables s) (s .pre .0)
 
-fresh-at-requires : tie.Need-fresh-at-requires
-fresh-at-requires c κs =
-    let s = start (c .before .before .before .before) in
+fresh-requires : tie.Need-fresh-requires
+fresh-requires c κs =
+    let s = start (c .before .before .before .before .before) in
     (fresh-ok _ (tables s) (release-ok (machine s) (tables s) (s .pre .0)), s .pre .1)
 
 returns : tie.Need-returns
-returns c x s =
-    let d = c .before .before .before .before .before .before in
-    did-request _ _ _ _ _ _ x s (d .before .before .before .before .before .call .given .1) (d .request-at .ensures)
+returns c =
+    let d = c .before .before .before .before .before .before in (
+      λ x s. did-request _ _ _ _ _ _ x s (d .before .before .before .before .before .before .call .given .1) (d .request .ensures .0),
+      d .request .ensures .1,
+    )
 
 returns-2 : tie.Need-returns-2
-returns-2 c x s =
-    let d = c .before .before .before .before in
-    did-release _ _ _ _ _ _ x s (d .before .before .before .before .before .call2 .given .1) (d .release-at .ensures)
+returns-2 c =
+    let d = c .before .before .before .before in (
+      λ x s. did-release _ _ _ _ _ _ x s (d .before .before .before .before .before .before .call2 .given .1) (d .release .ensures .0),
+      d .release .ensures .1,
+    )
 
 returns-3 : tie.Need-returns-3
-returns-3 c x s =
+returns-3 c =
     let d = c .before .before in
-    let t = tables (start (d .before .before .before .before .before)) in
-    did-rebind _ t _ _ _ _ x s (d .before .before .before .call3 .given .1) (d .rebind-at .ensures t)
+    let b = start (d .before .before .before .before .before) in
+    (λ x s. did-rebind _ (tables b) _ _ _ _ x s (d .before .before .before .call3 .given .1) (d .rebind-at .ensures (tables b)), b .pre .2)
 
 returns-4 : tie.Need-returns-4
-returns-4 c x s =
+returns-4 c =
     let d = c .before .before in
-    let t = tables (start (d .before .before .before .before .before)) in
-    did-install _ t _ _ _ _ x s _ (d .before .before .before .call4 .given .1) refl refl refl refl refl (λ p q. d .install-at .ensures t p q)
+    let b = start (d .before .before .before .before .before) in (
+      λ x s. did-install _ (tables b) _ _ _ _ x s _ (d .before .before .before .call4 .given .1) refl refl refl refl refl
+          (λ p q. d .install-at .ensures (tables b) p q),
+      b .pre .2,
+    )
 
 returns-5 : tie.Need-returns-5
-returns-5 c x s =
+returns-5 c =
     let d = c .before .before in
-    let t = tables (start (d .before .before .before .before .before)) in
-    did-clear _ t _ _ _ _ x s (d .before .before .before .call5 .given .1) (d .clear-at .ensures t)
+    let b = start (d .before .before .before .before .before) in
+    (λ x s. did-clear _ (tables b) _ _ _ _ x s (d .before .before .before .call5 .given .1) (d .clear-at .ensures (tables b)), b .pre .2)
 
 returns-6 : tie.Need-returns-6
-returns-6 c x s =
+returns-6 c =
     let d = c .before .before .before .before in
-    let t = tables (start (d .before .before .before .before .before)) in
-    did-fresh _ t _ _ _ _ x s (d .before .before .before .enum-told .given .1) (d .fresh-at .ensures t)
+    let t = tables (start (d .before .before .before .before .before .before)) in
+    (λ x s. did-fresh _ t _ _ _ _ x s (d .before .before .before .before .enum-told .given .1) (d .fresh .ensures .0 t), d .fresh .ensures .1)
 
 pub perform-spec : {M : Type 1} → statement M
 perform-spec =
@@ -79,7 +87,7 @@ perform-spec =
     (search needs)
     (λ c κs. search needs)
     (search needs)
-    release-at-requires
+    release-requires
     (search needs)
     rebind-at-requires
     (search needs)
@@ -87,7 +95,7 @@ perform-spec =
     (search needs)
     clear-at-requires
     (search needs)
-    fresh-at-requires
+    fresh-requires
     (search needs) (search needs) (search needs)
     returns
     (search needs) (search needs) (search needs)

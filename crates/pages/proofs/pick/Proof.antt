@@ -2,14 +2,16 @@
 -- Assumes nothing.
 use Prim.Native.Nat.{ℕ, _-_, _≤_, _<_}
 use mathlib.Core.Path.{_≡_, refl, sym, ap, _∙_}
+use mathlib.Core.Bool.{true}
 use mathlib.Core.List.{List}
 use mathlib.Core.Option.{none}
 use native.Mathlib.Nat.{le-of-lt}
 use native.Mathlib.Omega.{arith}
 use borrow.Author.Needs.{needs}
-use lib.ListN.{length, take, drop, length-take, length-set, drop-of-length-le}
+use lib.Dec.{eqb}
+use lib.ListN.{length, getD, take, drop, length-take, length-set, drop-of-length-le}
 use Rattle.pages.specs.FirstZero.{shift, firstZero, zeroOrEnd}
-use Rattle.pages.proofs.FirstZero.{shift-zero, marked-found, block-index, block-found, block-none}
+use Rattle.pages.proofs.FirstZero.{first-here, begins-in, shift-zero, marked-found, block-index, block-found, block-none}
 use Rattle.pages.proofs.pick.Statement.{statement}
 use Rattle.pages.proofs.pick.Tie as tie
 
@@ -19,6 +21,22 @@ Inv-loop part₀ holder wide narrow i₀ part i =
 
 abbrev μ-loop : tie.MeasureT-loop
 μ-loop part₀ holder wide narrow i₀ part i = length part₀ - i
+
+-- ---- the first page is free
+
+abbrev lent : tie.Then1 Inv-loop μ-loop → List ℕ
+lent c = c .before .before .before .before .args .part .now
+
+begins : (c : tie.Then1 Inv-loop μ-loop) → eqb (getD (lent c) 0 1) 0 ≡ true
+begins c = sym (c .before .begins-free .ensures) ∙ c .if1 .taken
+
+slice-write-part : tie.Need-slice-write-part Inv-loop μ-loop
+slice-write-part c = begins-in (lent c) (begins c)
+
+returns : tie.Need-returns Inv-loop μ-loop
+returns c = let e = first-here (lent c) (begins c) in (sym e, marked-found {xs = lent c} _ refl e)
+
+-- ---- it is not: blocks of 128, then of 16
 
 skip-requires : tie.Need-skip-requires Inv-loop μ-loop
 skip-requires c κs = (omega arith, omega arith)
@@ -36,10 +54,12 @@ lowest-zero-requires c κs =
 
 -- ---- after a block has been looked at: the part, where the block starts and ends, and the index of its lowest zero, or its length
 
+-- the part that is lent, from the loop's head
+abbrev part₀ : tie.At-loop Inv-loop μ-loop → List ℕ
+part₀ l = let tested = l .before .before .before .before .before in tested .before .before .before .before .args .part .now
+
 abbrev part-of : tie.After-lowest-zero Inv-loop μ-loop → List ℕ
-part-of c =
-    let at-loop = c .before .before .before .before .before in
-    at-loop .before .before .before .before .before .before .args .part .now
+part-of c = part₀ (c .before .before .before .before .before)
 
 abbrev start : tie.After-lowest-zero Inv-loop μ-loop → ℕ
 start c = c .before .before .before .before .before .loop .i
@@ -65,16 +85,16 @@ looked c = c .lowest-zero .ensures ∙ ap (λ (xs : List ℕ). zeroOrEnd (take (
 add-at : tie.Need-add-at Inv-loop μ-loop
 add-at c = record { fits = omega (arith, forward c, block-index _ _ _ _ (le-of-lt (forward c)) (inside c) (looked c)) }
 
-slice-write-part : tie.Need-slice-write-part Inv-loop μ-loop
-slice-write-part c = omega (arith, c .if1 .taken, inside (c .before), ap length (unmarked (c .before)))
+slice-write-part-2 : tie.Need-slice-write-part-2 Inv-loop μ-loop
+slice-write-part-2 c = omega (arith, c .if2 .taken, inside (c .before), ap length (unmarked (c .before)))
 
-same-length : tie.Need-same-length Inv-loop μ-loop
-same-length c = simp length-set (ap length (unmarked (c .before)))
+same-length-2 : tie.Need-same-length-2 Inv-loop μ-loop
+same-length-2 c = simp length-set (ap length (unmarked (c .before)))
 
-returns : tie.Need-returns Inv-loop μ-loop
-returns c =
+returns-2 : tie.Need-returns-2 Inv-loop μ-loop
+returns-2 c =
     let b = c .before in
-    let e = so-far b ∙ block-found _ _ _ _ (le-of-lt (forward b)) (inside b) (looked b) (c .if1 .taken) in
+    let e = so-far b ∙ block-found _ _ _ _ (le-of-lt (forward b)) (inside b) (looked b) (c .if2 .taken) in
     (sym e, marked-found _ (unmarked b) e)
 
 loop-less : tie.Need-loop-less Inv-loop μ-loop
@@ -83,15 +103,15 @@ loop-less c = omega (arith, forward (c .before), inside (c .before))
 loop-again : tie.Need-loop-again Inv-loop μ-loop
 loop-again c =
     let b = c .before in
-    (inside b, unmarked b, so-far b ∙ block-none _ _ _ _ (le-of-lt (forward b)) (inside b) (looked b) (c .if1 .left))
+    (inside b, unmarked b, so-far b ∙ block-none _ _ _ _ (le-of-lt (forward b)) (inside b) (looked b) (c .if2 .left))
 
-same-length-2 : tie.Need-same-length-2 Inv-loop μ-loop
-same-length-2 c = ap length (c .before .loop .inv .1)
+same-length-3 : tie.Need-same-length-3 Inv-loop μ-loop
+same-length-3 c = ap length (c .before .loop .inv .1)
 
-returns-2 : tie.Need-returns-2 Inv-loop μ-loop
-returns-2 c =
+returns-3 : tie.Need-returns-3 Inv-loop μ-loop
+returns-3 c =
     let v = c .before .loop .inv in
-    let e : firstZero (c .before .before .before .before .before .before .before .args .part .now) ≡ none =
+    let e : firstZero (part₀ (c .before)) ≡ none =
     v .2 ∙ rw (drop-of-length-le _ (rw (v .1) at (c .loop-test .left))) in
     (sym e, rw (e, v .1))
 
@@ -99,5 +119,5 @@ pub pick-spec : {M : Type 1} → statement M
 pick-spec =
     tie.close
     (tie.spec
-    Inv-loop μ-loop skip-requires skip-requires-2 loop-holds (search needs) (search needs) (search needs) (search needs)
-    lowest-zero-requires add-at slice-write-part same-length returns loop-less loop-again same-length-2 returns-2)
+    Inv-loop μ-loop (search needs) slice-write-part (search needs) returns skip-requires skip-requires-2 loop-holds (search needs) (search needs)
+    (search needs) (search needs) lowest-zero-requires add-at slice-write-part-2 same-length-2 returns-2 loop-less loop-again same-length-3 returns-3)

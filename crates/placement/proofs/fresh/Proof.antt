@@ -28,28 +28,26 @@ counts-ok c = sym (c .before .page-counts-ok .ensures) ∙ not-false _ (c .if1 .
 starts-of-requires : tie.Need-starts-of-requires
 starts-of-requires c κs = let i = counts-in-order _ (counts-ok c) in (i .nodesMost, i .pagesMost)
 
-pages-ok-requires : tie.Need-pages-ok-requires
-pages-ok-requires c κs =
+pages-end-requires : tie.Need-pages-end-requires
+pages-end-requires c κs =
     let made = c .before in
     let i = counts-in-order _ (counts-ok (made .before)) in
     (i .nodesMost, i .pagesMost, made .starts-of .ensures)
 
--- the page table or the free counts do
+-- what the test of the page table and the free counts says
+tested : (c : tie.After-pages-ok) → let a = call (c .before .before .before .before .before) .args in
+    c .pages-ok .result ≡ freshTablesOk (a .counts .now) (length (a .pages .now)) (length (a .free .now))
+tested c = c .pages-ok .ensures ∙ fresh-tested _ _ _ (c .before .pages-end .ensures) (counts-ok (c .before .before .before .before))
+
+-- one of them breaks the rules
 returns-2 : tie.Need-returns-2
 unfolding onFresh freshDecision applied
-returns-2 c t =
-    let known = c .before .before .before .before in
-    rw (sym (fresh-tested _ _ _ (counts-ok known)) ∙ sym (c .before .pages-ok .ensures) ∙ not-true _ (c .if2 .taken))
-
--- all is in order
-tables-ok : (c : tie.Else2) → let a = call (c .before .before .before .before .before) .args in
-    freshTablesOk (a .counts .now) (length (a .pages .now)) (length (a .free .now)) ≡ true
-tables-ok c = sym (fresh-tested _ _ _ (counts-ok (c .before .before .before .before))) ∙ sym (c .before .pages-ok .ensures) ∙ not-false _ (c .if2 .left)
+returns-2 c t = rw (sym (tested (c .before)) ∙ not-true _ (c .if2 .taken))
 
 fresh-at-requires : tie.Need-fresh-at-requires
 fresh-at-requires c κs =
     let known = c .before .before .before in
-    (tables-ok known, known .before .before .before .starts-of .ensures)
+    (sym (tested (known .before)) ∙ not-false _ (known .if2 .left), known .before .before .before .before .starts-of .ensures)
 
 pub fresh-spec : {M : Type 1} → statement M
 fresh-spec =
@@ -58,7 +56,8 @@ fresh-spec =
     (search needs)
     returns
     starts-of-requires
-    pages-ok-requires
+    pages-end-requires
+    (search needs)
     returns-2
     fresh-at-requires
     (search needs) (search needs)

@@ -1,59 +1,62 @@
--- `release` meets its contract: the page counts first, then the other tables.
+-- `release` meets its contract: each page count first, then their sum and the other tables.
 -- Assumes nothing.
-use mathlib.Core.Path.{_≡_, sym, _∙_}
-use mathlib.Core.Bool.{true, _&&_}
+use mathlib.Core.Path.{_≡_, sym, ap, _∙_}
+use mathlib.Core.Bool.{Bool, true, _&&_}
 use borrow.Author.Needs.{needs}
 use borrow.Author.Tests.{not-true, not-false}
+use lib.Dec.{leb}
 use lib.ListN.{length}
-use Rattle.rules.specs.Machine.{nodesOk, pagesOk}
+use Rattle.rules.specs.Basics.{all}
+use Rattle.rules.specs.Machine.{nodesOk}
 use Rattle.rules.specs.Calls.{Tables, tablesOf, freshTablesOk, releaseTablesOk, applied, releaseDecision, onRelease}
-use Rattle.rules.proofs.Machine.{counts-in-order}
+use Rattle.rules.proofs.Kept.{nodes-few}
+use Rattle.rules.proofs.Lists.{both-true}
+use Rattle.machine.proofs.Tables.{counts-tested}
 use Rattle.placement.proofs.InOrder.{release-tested}
 use Rattle.placement.proofs.release.Statement.{statement}
 use Rattle.placement.proofs.release.Tie as tie
 
 -- the call, from the place after the test of the counts; the tables
-abbrev call : tie.After-page-counts-ok → tie.Start
+abbrev call : tie.After-counts-ok → tie.Start
 call c = c .before .before .before .before .before
 
 abbrev tables : tie.Start → Tables
 tables s = tablesOf (s .args .pages .now) (s .args .jobs .now) (s .args .free .now)
 
--- the page counts break the rules
+-- a page count breaks the rules
 returns : tie.Need-returns
 unfolding onRelease releaseDecision applied releaseTablesOk freshTablesOk
-returns c = rw (sym (c .before .page-counts-ok .ensures) ∙ not-true _ (c .if1 .taken))
+returns c = rw (sym (counts-tested (call (c .before) .args .counts .now) (sym (c .before .counts-ok .ensures) ∙ not-true _ (c .if1 .taken))))
 
--- the page counts are in order
-counts-ok : (c : tie.Else1) → let counts = call (c .before) .args .counts .now in (nodesOk (length counts) && pagesOk counts) ≡ true
-counts-ok c = sym (c .before .page-counts-ok .ensures) ∙ not-false _ (c .if1 .left)
+-- each page count is in order
+each-ok : (c : tie.Else1) →
+    let counts = call (c .before) .args .counts .now in
+    (nodesOk (length counts) && all (λ k. leb k 65536) counts) ≡ true
+each-ok c = sym (c .before .counts-ok .ensures) ∙ not-false _ (c .if1 .left)
 
-starts-of-requires : tie.Need-starts-of-requires
-starts-of-requires c κs = let i = counts-in-order _ (counts-ok c) in (i .nodesMost, i .pagesMost)
+locate-requires : tie.Need-locate-requires
+locate-requires c κs = nodes-few _ (both-true {a = nodesOk _} (each-ok c) .0)
 
-lent-ok-requires : tie.Need-lent-ok-requires
-lent-ok-requires c κs =
-    let made = c .before in
-    let i = counts-in-order _ (counts-ok (made .before)) in
-    (i .nodesMost, i .pagesMost, made .starts-of .ensures)
+-- what the test of all tables says
+tested : (c : tie.After-lent-ok) →
+    let s = call (c .before .before .before) in
+    (leb (c .before .locate .result .total) 1048576 && c .lent-ok .result) ≡ releaseTablesOk (s .args .counts .now) (tables s)
+tested c =
+    let s = call (c .before .before .before) in
+    let total = c .before .locate .result .total in
+    ap (λ (b : Bool). leb total 1048576 && b) (c .lent-ok .ensures)
+    ∙ release-tested (s .args .counts .now) (tables s) (c .before .locate .ensures .1) (each-ok (c .before .before))
 
--- the page table, the free counts or the job table do
+-- there are too many pages, or the page table, the free counts or the job table break the rules
 returns-2 : tie.Need-returns-2
 unfolding onRelease releaseDecision applied
-returns-2 c =
-    let known = c .before .before .before .before in
-    rw (sym (release-tested _ (tables (call (known .before))) (counts-ok known)) ∙ sym (c .before .lent-ok .ensures) ∙ not-true _ (c .if2 .taken))
+returns-2 c = rw (sym (tested (c .before .before)) ∙ not-true _ (c .if2 .taken))
 
--- all tables are in order
-tables-ok : (c : tie.Else2) → let s = call (c .before .before .before .before .before) in releaseTablesOk (s .args .counts .now) (tables s) ≡ true
-tables-ok c =
-    let known = c .before .before .before .before in
-    sym (release-tested _ (tables (call (known .before))) (counts-ok known)) ∙ sym (c .before .lent-ok .ensures) ∙ not-false _ (c .if2 .left)
-
-release-at-requires : tie.Need-release-at-requires
-release-at-requires c κs =
-    let known = c .before .before .before in
-    (tables-ok known, known .before .before .before .starts-of .ensures)
+release-located-requires : tie.Need-release-located-requires
+release-located-requires c κs =
+    let known = c .before .before in
+    let found = known .before .before .before .locate .ensures in
+    (sym (tested (known .before .before)) ∙ not-false _ (known .if2 .left), found .1, λ l. found .0)
 
 pub release-spec : {M : Type 1} → statement M
 release-spec =
@@ -61,9 +64,9 @@ release-spec =
     (tie.spec
     (search needs)
     returns
-    starts-of-requires
-    lent-ok-requires
+    locate-requires
+    (search needs)
     returns-2
-    release-at-requires
+    release-located-requires
     (search needs) (search needs)
     (λ c. search needs))

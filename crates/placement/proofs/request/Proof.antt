@@ -9,6 +9,7 @@ use Rattle.rules.specs.Calls.{Tables, tablesOf, requestTablesOk, applied, admit
 use Rattle.rules.proofs.Machine.{in-order}
 use Rattle.machine.specs.Tables.{machineOf}
 use Rattle.placement.proofs.InOrder.{request-tested}
+use Rattle.placement.proofs.Hints.{starts-hint}
 use Rattle.placement.proofs.request.Statement.{statement}
 use Rattle.placement.proofs.request.Tie as tie
 
@@ -34,30 +35,29 @@ machine-ok c = sym (c .before .machine-ok .ensures) ∙ not-false _ (c .if1 .lef
 starts-of-requires : tie.Need-starts-of-requires
 starts-of-requires c κs = let i = in-order _ (machine-ok c) .counts in (i .nodesMost, i .pagesMost)
 
-lent-ok-requires : tie.Need-lent-ok-requires
-lent-ok-requires c κs =
+pages-end-requires : tie.Need-pages-end-requires
+pages-end-requires c κs =
     let made = c .before in
     let i = in-order _ (machine-ok (made .before)) .counts in
     (i .nodesMost, i .pagesMost, made .starts-of .ensures)
 
+-- what the test of the other tables says
+tested : (c : tie.After-lent-ok) → let s = call (c .before .before .before .before .before) in c .lent-ok .result ≡ requestTablesOk (machine s) (tables s)
+tested c =
+    let known = c .before .before .before .before in
+    let s = call (known .before) in
+    c .lent-ok .ensures ∙ request-tested (machine s) (tables s) (c .before .pages-end .ensures) (machine-ok known)
+
 -- the page table, the free counts or the job table do
 returns-2 : tie.Need-returns-2
 unfolding onRequest requestDecision admitted applied
-returns-2 c =
-    let known = c .before .before .before .before in
-    let s = call (known .before) in
-    rw (sym (request-tested (machine s) (tables s) (machine-ok known)) ∙ sym (c .before .lent-ok .ensures) ∙ not-true _ (c .if2 .taken))
-
--- all tables are in order
-tables-ok : (c : tie.Else2) → let s = call (c .before .before .before .before .before) in requestTablesOk (machine s) (tables s) ≡ true
-tables-ok c =
-    let known = c .before .before .before .before in
-    sym (request-tested _ (tables (call (known .before))) (machine-ok known)) ∙ sym (c .before .lent-ok .ensures) ∙ not-false _ (c .if2 .left)
+returns-2 c = rw (sym (tested (c .before)) ∙ not-true _ (c .if2 .taken))
 
 request-at-requires : tie.Need-request-at-requires
 request-at-requires c κs =
-    let known = c .before .before .before .before in
-    (tables-ok known, known .before .before .before .starts-of .ensures)
+    let known = c .before .before .before .before .before in
+    let made = known .before .before .before .before .starts-of .ensures in
+    (sym (tested (known .before)) ∙ not-false _ (known .if2 .left), made, starts-hint _ made)
 
 pub request-spec : {M : Type 1} → statement M
 request-spec =
@@ -66,7 +66,8 @@ request-spec =
     (search needs)
     returns
     starts-of-requires
-    lent-ok-requires
+    pages-end-requires
+    (search needs)
     returns-2
     request-at-requires
     (search needs) (search needs) (search needs)

@@ -38,7 +38,7 @@ unfolding recordOf
 serve-requires c κs =
     let there = c .before .before .before .before .before in
     let s = call (there .before .before) in
-    searchable (machine s) (tables s) (s .args .job) (s .args .cpu) (let-through _ _ _ _ (passed there)) (s .pre .1)
+    searchable (machine s) (tables s) (s .args .job) (s .args .cpu) (let-through _ _ _ _ (passed there)) (s .pre .1) (s .pre .2)
 
 -- the search serves
 returns : tie.Need-returns

@@ -41,7 +41,7 @@ grant-node-requires c κs =
     let taken = c .before .before .before .before in
     let looked = taken .before .before in
     let s = call (looked .before .before) in
-    (s .pre .0, s .pre .1, chose _ _ (tries s) _ (s .pre .2) (rw (taken .chosen .given .1) at (found looked)))
+    (s .pre .0, s .pre .1, chose _ _ (tries s) _ (s .pre .2) (rw (taken .chosen .given .1) at (found looked)), s .pre .4)
 
 -- what the rules serve by a choice
 abbrev by : tie.Start → Option Try → Outcome

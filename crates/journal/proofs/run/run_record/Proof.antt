@@ -27,17 +27,17 @@ places-in-requires : tie.Need-places-in-requires
 places-in-requires c κs = let g = good-record _ (good (c .before) .is) in omega (arith, g .least, g .within)
 
 perform-requires : tie.Need-perform-requires
-perform-requires c κs = let found = c .before .before .before .before .before in let s = start (reader found) in (s .pre .0, s .pre .1)
+perform-requires c κs = let found = c .before .before .before .before .before .before in let s = start (reader found) in (s .pre .0, s .pre .1, s .pre .3)
 
 returns : tie.Need-returns
 returns c =
     let copied = c .before .before in
     let answered = copied .before .before .before in
     let performed = answered .before .before .before .before .before .before .before in
-    let placed = performed .before .before .before .before in
+    let placed = performed .before .before .before .before .before in
     let g = good (placed .before .before) in
-    let did = performed .perform .ensures (g .law) (rw (placed .places-in .ensures) (g .says)) in
-    record-done _ _ _ _ (g .is) did (answered .line .ensures) (copied .copy .ensures .0) (copied .copy .ensures .1)
+    let did = performed .perform .ensures .0 (g .law) (rw (placed .places-in .ensures) (g .says)) in
+    (record-done _ _ _ _ (g .is) did (answered .line .ensures) (copied .copy .ensures .0) (copied .copy .ensures .1), performed .perform .ensures .1)
 
 returns-2 : tie.Need-returns-2
 returns-2 c =
@@ -45,7 +45,7 @@ returns-2 c =
     let answered = copied .before .before .before in
     let told = answered .before in
     let damage = is-damaged _ (told .enum-told .given .1) (told .before .before .read-record .ensures) in
-    record-damaged _ _ _ _ damage (answered .fault .ensures) (copied .copy2 .ensures .0) (copied .copy2 .ensures .1)
+    (record-damaged _ _ _ _ damage (answered .fault .ensures) (copied .copy2 .ensures .0) (copied .copy2 .ensures .1), start (told .before .before) .pre .3)
 
 pub run-record-spec : {M : Type 1} → statement M
 run-record-spec =

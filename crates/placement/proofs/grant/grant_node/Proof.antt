@@ -45,7 +45,7 @@ grant-node-spec =
     tie.close
     (tie.spec
     (search needs)
-    (λ c κs. let s = c .before .before .before .before .before in (s .pre .0, s .pre .2 .node))
+    (λ c κs. let s = c .before .before .before .before .before in (s .pre .0, s .pre .2 .node, s .pre .3))
     (search needs) (search needs) (search needs) (search needs) (search needs) (search needs) (search needs)
     store-cursor-requires
     (search needs) (search needs) (search needs) (search needs)
