@@ -23,7 +23,7 @@ use Rattle.fairness.specs.Demand3.{FairPlaces, FairNodes}
 use Rattle.fairness.specs.Demand3.{Demand3}
 use Rattle.fairness.proofs.Turns.{upto, hits, is, is-other, round, Under, upto-all, upto-is, round-once, Walk, at-least, exactly}
 use Rattle.fairness.proofs.Search.{first-around, RingGrant, ring-grant, InterleaveGrant, interleave-grant}
-use Rattle.fairness.proofs.Kept.{Served, Linked, linked, linked-drop, linked-take}
+use Rattle.fairness.proofs.Kept.{ServedFirst, Linked, linked, linked-drop, linked-take}
 
 hits-all : (ps : List ℕ) → hits (λ _. 1) ps ≡ length ps
 unfolding hits
@@ -36,11 +36,11 @@ not-both t f = false≢true (sym f ∙ t)
 -- ---- ring
 
 -- the search of one grant of a ring job whose record is P but for the turn c
-ring-served : (m : Machine) (j : ℕ) (P : Record) (c : Turn) (g : Grant) (s : Try) → P .mode ≡ 5 → recordIn (g .before) j ≡ withTurn P c → Served m j g s
-    → RingGrant m (g .before) j s
+ring-served : (m : Machine) (j : ℕ) (P : Record) (c : Turn) (g : Grant) (s : Try) → P .mode ≡ 5 → recordIn (g .before) j ≡ withTurn P c
+    → ServedFirst m j g s → RingGrant m (g .before) j s
 unfolding withTurn
 ring-served m j P c g s five e v =
-    ring-grant m (g .before) j (v .cpu) s (v .well-formed) (ap (λ (x : Record). x .mode) e ∙ five) (v .chose)
+    ring-grant m (g .before) j (v .served .cpu) s (v .served .well-formed) (ap (λ (x : Record). x .mode) e ∙ five) (v .with-room)
 
 -- the places granted to a ring job: a walk round its places that passes over no place where h is not 0
 record Places (m : Machine) (j : ℕ) (P : Record) (h : ℕ → ℕ) (c : Turn) (gs : List Grant) : Type 0 where
@@ -116,7 +116,7 @@ unfolding Linked Each placeGranted
 ring-pages m j P c [] five l = tt
 ring-pages m j P c (g ∷ gs) five l =
     let r = ring-served m j P c g (l .1) five (l .0) (l .2) in
-    ((r .place, r .by-turn, l .2 .in-node ∙ r .serves), ring-pages m j P (l .1 .turn) gs five (l .3))
+    ((r .place, r .by-turn, l .2 .served .in-node ∙ r .serves), ring-pages m j P (l .1 .turn) gs five (l .3))
 
 -- ---- interleave
 
@@ -142,10 +142,11 @@ record Targets (m : Machine) (j : ℕ) (P : Record) (c : Turn) (gs : List Grant)
 
 -- the search of one grant of an interleave job whose record is P but for the turn c
 interleave-served : (m : Machine) (j : ℕ) (P : Record) (c : Turn) (q : ℕ) (g : Grant) (s : Try) → P .mode ≡ 3 → has (P .effective) q ≡ true
-    → recordIn (g .before) j ≡ withTurn P c → Served m j g s → InterleaveGrant m (g .before) j s
+    → recordIn (g .before) j ≡ withTurn P c → ServedFirst m j g s → InterleaveGrant m (g .before) j s
 unfolding withTurn
 interleave-served m j P c q g s three h e v =
-    interleave-grant m (g .before) j (v .cpu) q s (ap (λ (x : Record). x .mode) e ∙ three) (ap (λ (x : Record). has (x .effective) q) e ∙ h) (v .chose)
+    interleave-grant m (g .before) j (v .served .cpu) q s (ap (λ (x : Record). x .mode) e ∙ three) (ap (λ (x : Record). has (x .effective) q) e ∙ h)
+    (v .with-room)
 
 interleave-targets : (m : Machine) (j : ℕ) (P : Record) (c : Turn) (q : ℕ) (gs : List Grant) → P .mode ≡ 3 → has (P .effective) q ≡ true → Linked m j P c gs
     → Targets m j P c gs
@@ -161,7 +162,7 @@ interleave-targets m j P c q (g ∷ gs) three h l =
       walks = (f .past, f .here, λ e lt. in-false (P .effective) ((c .cursor + e) % mostNodes) refl (f .failed e lt), rest .walks);
       as-many = ap suc (rest .as-many);
       effective = ((rw (f .here) (mod-lt (c .cursor + f .past) (omega arith)), f .passes), rest .effective);
-      aimed = (λ o. v .in-node ∙ r .serves o, rest .aimed);
+      aimed = (λ o. v .served .in-node ∙ r .serves o, rest .aimed);
     }
 
 -- every target is effective

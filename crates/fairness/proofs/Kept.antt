@@ -31,28 +31,36 @@ use Rattle.fairness.proofs.Search.{not-empty}
 pub record Served (m : Machine) (j : ℕ) (g : Grant) (s : Try) : Type 0 where
   pub cpu : ℕ
   pub well-formed : wellFormed (nodeCount m) (recordIn (g .before) j) ≡ true
-  pub chose : firstWithRoom (m .pageCounts) (g .before .ledger) (orderOf m (g .before) j cpu) ≡ some s
+  pub chose : chosen (g .before .free) (orderOf m (g .before) j cpu) ≡ some s
   pub in-node : nodeGranted m g ≡ s .node
   pub allowed : has (limitOf (g .before) j) (s .node) ≡ true
 
+-- and with counts that match it is the first in the order with a free page
+pub record ServedFirst (m : Machine) (j : ℕ) (g : Grant) (s : Try) : Type 0 where
+  pub served : Served m j g s
+  pub with-room : firstWithRoom (m .pageCounts) (g .before .ledger) (orderOf m (g .before) j (served .cpu)) ≡ some s
+
+served-first : (m : Machine) (j : ℕ) (g : Grant) (s : Try) → Matches (m .pageCounts) (g .before) → Served m j g s → ServedFirst m j g s
+served-first m j g s w v = record { served = v; with-room = sym (chosen-first m (g .before) w (orderOf m (g .before) j (v .cpu))) ∙ v .chose }
+
 -- what a call does to job j
-data Effect (m : Machine) (j : ℕ) (t : Tables) (c : Call) : Type 0 where
+pub data Effect (m : Machine) (j : ℕ) (t : Tables) (c : Call) : Type 0 where
   quiet : grantIn m j t c ≡ [] → recordIn (step m t c .tables) j ≡ recordIn t j → Effect m j t c
   gave : (p : ℕ) (s : Try) → grantIn m j t c ≡ record { before = t; page = p } ∷ [] → Served m j (record { before = t; page = p }) s
       → recordIn (step m t c .tables) j ≡ withTurn (recordIn t j) (s .turn) → Effect m j t c
-  cleared : grantIn m j t c ≡ [] → limitOf (step m t c .tables) j ≡ 0 → Effect m j t c
+  cleared : c ≡ clear j → grantIn m j t c ≡ [] → limitOf (step m t c .tables) j ≡ 0 → Effect m j t c
 
 -- ---- requests
 
-own-granted : (m : Machine) (t : Tables) (j k : ℕ) (s : Try) → Matches (m .pageCounts) t → Passes m t j k
+own-granted : (m : Machine) (t : Tables) (j k : ℕ) (s : Try) → Passes m t j k
     → chosen (t .free) (orderOf m t j k) ≡ some s → hasRoom (m .pageCounts) (t .ledger) (s .node) ≡ true
     → requestDecision m t j k ≡ accept (granting (m .pageCounts) t j s) → Effect m j t (request j k)
 unfolding step decision applied afterStores grantIn grantBy nodeGranted
-own-granted m t j k s a p c h e =
+own-granted m t j k s p c h e =
     let g = serves m t j k p c h in
     let lt = ltb-true j (jobCount (length (t .records))) (p .job) in
     gave (pickPage (m .pageCounts) (t .ledger) j (s .node)) s (rw (eq-eqb j j refl, e))
-    (record { cpu = k; well-formed = p .formed; chose = sym (chosen-first m t a (orderOf m t j k)) ∙ c; in-node = granted-in-node g; allowed = g .allowed })
+    (record { cpu = k; well-formed = p .formed; chose = c; in-node = granted-in-node g; allowed = g .allowed })
     (rw e (record-same (t .records) j (withTurn (recordIn t j) (s .turn)) lt (request-good m t j k s p c .storable)))
 
 other-granted : (m : Machine) (t : Tables) (j i k : ℕ) (s : Try) → i ≢ j → requestDecision m t i k ≡ accept (granting (m .pageCounts) t i s)
@@ -60,22 +68,21 @@ other-granted : (m : Machine) (t : Tables) (j i k : ℕ) (s : Try) → i ≢ j �
 unfolding step decision applied afterStores grantIn
 other-granted m t j i k s ne e = quiet (rw (ne-eqb i j ne)) (rw e (record-other (t .records) i j (withTurn (recordIn t i) (s .turn)) ne))
 
-own-request : (m : Machine) (t : Tables) (j k : ℕ) → Matches (m .pageCounts) t → (d : Decision Change) → requestDecision m t j k ≡ d
-    → Effect m j t (request j k)
+own-request : (m : Machine) (t : Tables) (j k : ℕ) (d : Decision Change) → requestDecision m t j k ≡ d → Effect m j t (request j k)
 unfolding step decision applied grantIn grantBy
-own-request m t j k w (refuse r) e = quiet (rw (eq-eqb j j refl, e)) (rw e)
-own-request m t j k w (accept x) e = let a = accepted m t j k e in own-granted m t j k (a .1) w (a .0) (a .2) (a .3) (e ∙ ap accept (a .4))
+own-request m t j k (refuse r) e = quiet (rw (eq-eqb j j refl, e)) (rw e)
+own-request m t j k (accept x) e = let a = accepted m t j k e in own-granted m t j k (a .1) (a .0) (a .2) (a .3) (e ∙ ap accept (a .4))
 
 other-request : (m : Machine) (t : Tables) (j i k : ℕ) → i ≢ j → (d : Decision Change) → requestDecision m t i k ≡ d → Effect m j t (request i k)
 unfolding step decision applied grantIn
 other-request m t j i k ne (refuse r) e = quiet (rw (ne-eqb i j ne)) (rw e)
 other-request m t j i k ne (accept x) e = let a = accepted m t i k e in other-granted m t j i k (a .1) ne (e ∙ ap accept (a .4))
 
-request-effect : (m : Machine) (t : Tables) (j i k : ℕ) → Matches (m .pageCounts) t → Effect m j t (request i k)
-request-effect m t j i k w = go (eqb i j) refl
+request-effect : (m : Machine) (t : Tables) (j i k : ℕ) → Effect m j t (request i k)
+request-effect m t j i k = go (eqb i j) refl
   where
     go : (b : Bool) → eqb i j ≡ b → Effect m j t (request i k)
-    go true e = subst (λ (x : ℕ). Effect m j t (request x k)) (sym (eqb-true i j e)) (own-request m t j k w (requestDecision m t j k) refl)
+    go true e = subst (λ (x : ℕ). Effect m j t (request x k)) (sym (eqb-true i j e)) (own-request m t j k (requestDecision m t j k) refl)
     go false e = other-request m t j i k (eqb-false i j e) (requestDecision m t i k) refl
 
 -- ---- the other calls
@@ -111,7 +118,7 @@ own-clear m t j (refuse r) e = quiet refl (rw e)
 own-clear m t j (accept x) e =
     let a = clears (nodeCount m) (t .records) j e in
     let lt = ltb-true j (jobCount (length (t .records))) (a .0) in
-    cleared refl (rw (e, a .1) (ap (λ (x : Record). x .allowed) (record-same (t .records) j fresh lt fresh-storable) ∙ fresh-limit))
+    cleared refl refl (rw (e, a .1) (ap (λ (x : Record). x .allowed) (record-same (t .records) j fresh lt fresh-storable) ∙ fresh-limit))
 
 clear-effect : (m : Machine) (t : Tables) (j i : ℕ) → Effect m j t (clear i)
 unfolding step decision grantIn
@@ -123,24 +130,23 @@ clear-effect m t j i = go (eqb i j) refl
         quiet refl (storing-keeps t j i (clearDecision (nodeCount m) (t .records) i) (λ x q. (_, clears (nodeCount m) (t .records) i q .1))
         (λ q. absurd (false≢true (sym e ∙ q))))
 
-effect : (m : Machine) (j : ℕ) (t : Tables) (c : Call) → Matches (m .pageCounts) t
-    → (setsPolicy j c ≡ true → isRefused (step m t c .answer) ≡ true) → Effect m j t c
+pub effect : (m : Machine) (j : ℕ) (t : Tables) (c : Call) → (setsPolicy j c ≡ true → isRefused (step m t c .answer) ≡ true) → Effect m j t c
 unfolding step decision grantIn setsPolicy
-effect m j t (request i k) w u = request-effect m t j i k w
-effect m j t (release i p) w u = quiet refl (release-keeps (m .pageCounts) t j i p _ refl)
-effect m j t (install i p) w u =
+effect m j t (request i k) u = request-effect m t j i k
+effect m j t (release i p) u = quiet refl (release-keeps (m .pageCounts) t j i p _ refl)
+effect m j t (install i p) u =
     quiet refl (storing-keeps t j i (installDecision (nodeCount m) (t .records) i p) (λ x q. (_, installs (nodeCount m) (t .records) i p q .1)) u)
-effect m j t (rebind i allowed) w u =
+effect m j t (rebind i allowed) u =
     quiet refl (storing-keeps t j i (rebindDecision (nodeCount m) (t .records) i allowed) (λ x q. (_, rebinds (nodeCount m) (t .records) i allowed q .1)) u)
-effect m j t (clear i) w u = clear-effect m t j i
-effect m j t freshTable w u = quiet refl (fresh-keeps (m .pageCounts) t j _ refl)
+effect m j t (clear i) u = clear-effect m t j i
+effect m j t freshTable u = quiet refl (fresh-keeps (m .pageCounts) t j _ refl)
 
 -- ---- a list of calls
 
 -- the granted requests of a job whose record is P throughout, but for the turn: each starts from the turn that the last one left
 unfoldable pub Linked : Machine → ℕ → Record → Turn → List Grant → Type 0
 Linked m j P c [] = Unit {0}
-Linked m j P c (g ∷ gs) = (recordIn (g .before) j ≡ withTurn P c) × (s : Try) × Served m j g s × Linked m j P (s .turn) gs
+Linked m j P c (g ∷ gs) = (recordIn (g .before) j ≡ withTurn P c) × (s : Try) × ServedFirst m j g s × Linked m j P (s .turn) gs
 
 -- which turn the record P has is of no account
 any-turn : (m : Machine) (j : ℕ) (P : Record) (a c : Turn) (gs : List Grant) → Linked m j (withTurn P a) c gs → Linked m j P c gs
@@ -149,28 +155,30 @@ any-turn m j P a c [] l = tt
 any-turn m j P a c (g ∷ gs) l = (l .0, l .1, l .2, any-turn m j P a (l .1 .turn) gs (l .3))
 
 -- a job that may use no node, as after a clear, gets no more grants
-no-grants : (m : Machine) (j : ℕ) (t : Tables) (cs : List Call) → Matches (m .pageCounts) t → limitOf t j ≡ 0 → PolicyKept m j t cs → grants m j t cs ≡ []
+no-grants : (m : Machine) (j : ℕ) (t : Tables) (cs : List Call) → limitOf t j ≡ 0 → PolicyKept m j t cs → grants m j t cs ≡ []
 unfolding PolicyKept grants limitOf
-no-grants m j t [] w z u = refl
-no-grants m j t (c ∷ cs) w z u = go (effect m j t c w (u .0)) (λ y. no-grants m j (step m t c .tables) cs (matches-kept m t c w) y (u .1))
+no-grants m j t [] z u = refl
+no-grants m j t (c ∷ cs) z u = go (effect m j t c (u .0)) (λ y. no-grants m j (step m t c .tables) cs y (u .1))
   where
     go : Effect m j t c → (limitOf (step m t c .tables) j ≡ 0 → grants m j (step m t c .tables) cs ≡ [])
         → grantIn m j t c ++ grants m j (step m t c .tables) cs ≡ []
     go (quiet e s) ih = rw (e, ih (ap (λ (x : Record). x .allowed) s ∙ z))
     go (gave p s e v q) ih = absurd (false≢true (sym (not-empty (limitOf t j) (s .node) (v .allowed)) ∙ eq-eqb (limitOf t j) 0 z))
-    go (cleared e y) ih = rw (e, ih y)
+    go (cleared o e y) ih = rw (e, ih y)
 
 pub linked : (m : Machine) (j : ℕ) (t : Tables) (cs : List Call) → Matches (m .pageCounts) t → PolicyKept m j t cs
     → Linked m j (recordIn t j) (recordIn t j .turn) (grants m j t cs)
 unfolding PolicyKept Linked grants withTurn
 linked m j t [] w u = tt
-linked m j t (c ∷ cs) w u = go (effect m j t c w (u .0)) (linked m j (step m t c .tables) cs (matches-kept m t c w) (u .1))
+linked m j t (c ∷ cs) w u = go (effect m j t c (u .0)) (linked m j (step m t c .tables) cs (matches-kept m t c w) (u .1))
   where
     go : Effect m j t c → Linked m j (recordIn (step m t c .tables) j) (recordIn (step m t c .tables) j .turn) (grants m j (step m t c .tables) cs)
         → Linked m j (recordIn t j) (recordIn t j .turn) (grantIn m j t c ++ grants m j (step m t c .tables) cs)
     go (quiet e s) ih = rw (e, ← s) ih
-    go (cleared e z) ih = rw (e, no-grants m j (step m t c .tables) cs (matches-kept m t c w) z (u .1)) tt
-    go (gave p s e v q) ih = rw e (refl, s, v, any-turn m j (recordIn t j) (s .turn) (s .turn) (grants m j (step m t c .tables) cs) (rw q at ih))
+    go (cleared o e z) ih = rw (e, no-grants m j (step m t c .tables) cs z (u .1)) tt
+    go (gave p s e v q) ih =
+        let first = served-first m j (record { before = t; page = p }) s w v in
+        rw e (refl, s, first, any-turn m j (recordIn t j) (s .turn) (s .turn) (grants m j (step m t c .tables) cs) (rw q at ih))
 
 pub linked-drop : (m : Machine) (j : ℕ) (P : Record) (c : Turn) (gs : List Grant) (s : ℕ) → Linked m j P c gs → (d : Turn) × Linked m j P d (drop s gs)
 unfolding Linked

@@ -9,17 +9,18 @@ use native.Mathlib.Nat.{add-zero, add-suc, suc-add, zero-lt-suc}
 use native.Mathlib.Omega.{arith}
 use borrow.Author.Tests.{eqb-true, ne-eqb}
 use lib.Dec.{eqb, ltb}
-use Rattle.rules.specs.Basics.{keep, first, around, between}
+use Rattle.rules.specs.Basics.{keep, first, around}
 use Rattle.rules.specs.Machine.{Machine, nodeCount}
 use Rattle.rules.specs.Masks.{mostNodes, bit, has, isEmpty}
-use Rattle.rules.specs.Records.{Record, Turn, lastIs, interleave, ring, rowOf, dataFits, noMasks, wellFormed, placesPerJob}
-use Rattle.rules.specs.SearchOrder.{Try, try, near, tried, nodeAt, ringTries, target, interleaved, planIn, modeInForce, plan, order, hasRoom}
+use Rattle.rules.specs.Records.{Record, Turn, lastIs, interleave, rowOf, modeOf, wellFormed}
+use Rattle.rules.specs.SearchOrder.{Try, try, near, tried, nodeAt, ringPlaces, placeTries, ringTries, target, interleaved, planIn, modeInForce}
+use Rattle.rules.specs.SearchOrder.{plan, order, hasRoom}
 use Rattle.rules.specs.Calls.{Tables, limitOf, orderOf}
 use Rattle.rules.specs.FreeCounts.{firstWithRoom}
 use Rattle.rules.proofs.Lists.{both-true, map-member, first-keep, first-member}
 use Rattle.rules.proofs.Masks.{bit-above}
 use Rattle.rules.proofs.Near.{near-order}
-use Rattle.rules.proofs.WellFormed.{formed}
+use Rattle.rules.proofs.WellFormed.{formed, list-in-force}
 use Rattle.fairness.specs.Demand3.{recordIn, isOpen, placeOpen}
 
 -- ---- the first that passes
@@ -76,36 +77,35 @@ first-mapped {A} {B} f r q (x ∷ xs) s e = go (r (f x)) (q (f x)) refl e (first
     go true false t e ih = ih (rw t at e)
     go false b t e ih = ih e
 
--- ---- ring
+-- ---- places
 
-flag-none : (n : ℕ) (j : Record) → wellFormed n j ≡ true → j .mode ≡ 5 → j .flag ≡ 0
-unfolding dataFits rowOf noMasks
-flag-none n j w five =
-    let d = rw five at (formed n j w .data-fits) in
-    let a = both-true {a = noMasks j} {b = between 1 placesPerJob (j .len)} d .0 in
-    let b = both-true {a = eqb (j .flag) 0 && isEmpty (j .user)} {b = isEmpty (j .effective)} a .0 in
-    eqb-true (j .flag) 0 (both-true {a = eqb (j .flag) 0} {b = isEmpty (j .user)} b .0)
-
-in-ring : (n : ℕ) (j : Record) → wellFormed n j ≡ true → j .mode ≡ 5 → modeInForce j ≡ ring
-unfolding modeInForce
-in-ring n j w five = rw (flag-none n j w five, five)
-
--- A grant to a ring job: the place granted is the first that is open, and the cursor field becomes one more.
-pub record RingGrant (m : Machine) (t : Tables) (j : ℕ) (s : Try) : Type 0 where
+-- A grant by places: the place granted is the first of some that passes a test, and the cursor field becomes one more.
+pub record PlaceGrant (ok : ℕ → Bool) (places : List ℕ) (r : Record) (s : Try) : Type 0 where
   pub place : ℕ
-  pub by-turn : first (keep (placeOpen m t j) (around (recordIn t j .len) (recordIn t j .turn .cursor) (recordIn t j .len))) ≡ some place
+  pub by-turn : first (keep ok places) ≡ some place
   pub moves : s .turn ≡ lastIs place
-  pub serves : s .node ≡ nodeAt (recordIn t j) place
+  pub serves : s .node ≡ nodeAt r place
+
+-- the first try of some places whose node is one of n, in the limit, and passes a test
+pub place-grant : (n limit : ℕ) (room : ℕ → Bool) (r : Record) (ps : List ℕ) (s : Try)
+    → first (keep (λ u. room (u .node)) (tried n limit (placeTries r ps))) ≡ some s
+    → PlaceGrant (λ p. ltb (nodeAt r p) n && has limit (nodeAt r p) && room (nodeAt r p)) ps r s
+unfolding tried
+place-grant n limit room r ps s e =
+    let f = first-mapped (λ (p : ℕ). try (lastIs p) (nodeAt r p)) (λ u. ltb (u .node) n && has limit (u .node)) (λ u. room (u .node)) ps s e in
+    record { place = f .0; by-turn = f .1; moves = ap (λ (u : Try). u .turn) (f .2); serves = ap (λ (u : Try). u .node) (f .2) }
+
+-- a grant to a ring job: the first place that is open
+abbrev pub RingGrant : Machine → Tables → ℕ → Try → Type 0
+RingGrant m t j s = PlaceGrant (placeOpen m t j) (ringPlaces (recordIn t j)) (recordIn t j) s
 
 pub ring-grant : (m : Machine) (t : Tables) (j k : ℕ) (s : Try) → wellFormed (nodeCount m) (recordIn t j) ≡ true → recordIn t j .mode ≡ 5
     → firstWithRoom (m .pageCounts) (t .ledger) (orderOf m t j k) ≡ some s → RingGrant m t j s
-unfolding firstWithRoom orderOf order plan planIn tried ringTries placeOpen isOpen
+unfolding firstWithRoom orderOf order plan planIn ringTries placeOpen isOpen rowOf
 ring-grant m t j k s w five e =
-    let J = recordIn t j in
-    let r =
-    first-mapped (λ (p : ℕ). try (lastIs p) (nodeAt J p)) (λ u. ltb (u .node) (nodeCount m) && has (limitOf t j) (u .node))
-    (λ u. hasRoom (m .pageCounts) (t .ledger) (u .node)) (around (J .len) (J .turn .cursor) (J .len)) s (rw (in-ring (nodeCount m) J w five) at e) in
-    record { place = r .0; by-turn = r .1; moves = ap (λ (u : Try). u .turn) (r .2); serves = ap (λ (u : Try). u .node) (r .2) }
+    let r = recordIn t j in
+    let in-force = list-in-force (nodeCount m) r (formed (nodeCount m) r w) (rw five refl) ∙ ap modeOf five in
+    place-grant (nodeCount m) (limitOf t j) (hasRoom (m .pageCounts) (t .ledger)) r (ringPlaces r) s (rw in-force at e)
 
 -- ---- interleave
 

@@ -7,11 +7,11 @@ use mathlib.Core.Option.{Option, none, some}
 use mathlib.Core.List.{List, [], _∷_, _++_}
 use lib.ListN.{length, take, drop}
 use lib.Dec.{eqb, ltb}
-use Rattle.rules.specs.Basics.{keep, first, around, count, Each}
+use Rattle.rules.specs.Basics.{keep, first, count, Each}
 use Rattle.rules.specs.Machine.{Machine, nodeCount, nodeOfPage}
 use Rattle.rules.specs.Masks.{mostNodes, has, size}
 use Rattle.rules.specs.Records.{Record, recordAt}
-use Rattle.rules.specs.SearchOrder.{nodeAt, hasRoom}
+use Rattle.rules.specs.SearchOrder.{nodeAt, ringPlaces, hasRoom}
 use Rattle.rules.specs.Calls.{Answer, granted, released, done, refused, Tables, limitOf}
 use Rattle.rules.specs.Book.{Call, request, release, install, rebind, clear, freshTable, step}
 use Rattle.rules.specs.FreeCounts.{Matches}
@@ -75,8 +75,7 @@ placeOpen m t j p = isOpen m t j (nodeAt (recordIn t j) p)
 
 -- "Ring: the place granted is the first that is allowed and has a free page", from one past the last, once round
 unfoldable pub placeGranted : Machine → ℕ → Grant → Option ℕ
-placeGranted m j g =
-    first (keep (placeOpen m (g .before) j) (around (recordIn (g .before) j .len) (recordIn (g .before) j .turn .cursor) (recordIn (g .before) j .len)))
+placeGranted m j g = first (keep (placeOpen m (g .before) j) (ringPlaces (recordIn (g .before) j)))
 
 -- "Interleave: the node granted is the page's"
 unfoldable pub nodeGranted : Machine → Grant → ℕ

@@ -58,7 +58,7 @@ runBy law bs = linesBy law (recordsIn bs) ++ ending (past bs (recordsIn bs))
 abbrev pub bookRun : Machine → Tables → List ℕ → List ℕ
 bookRun m t bs = runBy (answers m t) bs
 
--- by the law without counts, document 01 as it stood before M-100
+-- by the law without counts
 abbrev pub uncountedRun : Machine → Tables → List ℕ → List ℕ
 uncountedRun m t bs = runBy (answersUncounted m t) bs
 

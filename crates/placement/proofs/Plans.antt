@@ -5,7 +5,7 @@ use mathlib.Core.Path.{_≡_, refl, sym, ap, _∙_}
 use mathlib.Core.Bool.{Bool, true, false, not, _&&_, cond, false≢true, and-false}
 use mathlib.Core.List.{List, [], _∷_, map, List·Memᴰ·head, List·Memᴰ·tail}
 use mathlib.Core.Option.{none, some}
-use native.Mathlib.Nat.{mod-lt, mod-eq-of-lt, lt-of-lt-of-le, lt-of-le-of-lt}
+use native.Mathlib.Nat.{mod-eq-of-lt, lt-of-lt-of-le, lt-of-le-of-lt}
 use native.Mathlib.Omega.{arith}
 use native.Mathlib.Decide.{ℕ-discrete}
 use borrow.Author.Tests.{eqb-true, eqb-false, eq-eqb, ne-eqb}
@@ -18,12 +18,12 @@ use Rattle.rules.specs.Basics.{around}
 use Rattle.rules.specs.Masks.{mostNodes, bit, has, isEmpty, below, within, both, lowest, folded}
 use Rattle.rules.specs.Records.{Record, Turn, default, preferred, bind, interleave, Flag, plain, static, relative, unknownFlag, aMask, aList}
 use Rattle.rules.specs.Records.{carries, modeOf, flagOf, lastIs, noMasks, effectiveFits, masksFit, dataFits, placesOf}
-use Rattle.rules.specs.SearchOrder.{try, nearest, nodeAt, ringTries, target, interleaved, planIn, modeInForce, plan}
-use Rattle.rules.proofs.Lists.{_∈_, both-true, first-keep, around-member}
+use Rattle.rules.specs.SearchOrder.{try, nearest, nodeAt, ringPlaces, ringTries, target, interleaved, planIn, modeInForce, plan}
+use Rattle.rules.proofs.Lists.{_∈_, both-true, first-keep, around-below}
 use Rattle.rules.proofs.Masks.{folded-pos, below-width}
 use Rattle.rules.proofs.Turns.{turn-none}
 use Rattle.rules.proofs.Target.{target-none}
-use Rattle.rules.proofs.WellFormed.{Formed, effective-within, some-allowed, carries-list}
+use Rattle.rules.proofs.WellFormed.{Formed, effective-within, some-allowed, list-in-force}
 use Rattle.nodemask.proofs.RankLaws.{lowest-is}
 use Rattle.placement.specs.Plans.{leaves, roundTries}
 
@@ -138,10 +138,10 @@ module _ (n limit : ℕ) (r : Record) (x : ℕ) where
             absurd (d (eqb-true (r .effective) 0 (both-true {a = eqb (r .flag) 0 && isEmpty (r .user)} {b = isEmpty (r .effective)} q .1)))
         go false t = refl
 
-  -- a list mode is in force: its flag is 0
+  -- a list mode is in force
   pub list-plan : Formed n r → carries (modeOf (r .mode)) ≡ aList → plan limit r x ≡ planIn (modeOf (r .mode)) limit r x
-  unfolding plan modeInForce
-  list-plan h c = rw (carries-list n r (rw c at (h .data-fits)) .0)
+  unfolding plan
+  list-plan h c = rw (list-in-force n r h c)
 
 -- ---- the places of a list
 
@@ -170,9 +170,4 @@ place-at r p l = getD-take (r .len) (r .bytes) p 0 l
 pub ring-tries : (r : Record) (turn : Turn) → ringTries r ≡ roundTries true (r .bytes) turn (r .len) (r .turn .cursor) (r .len)
 unfolding ringTries roundTries leaves
 ring-tries r turn =
-    map-same _ _ (around (r .len) (r .turn .cursor) (r .len)) (λ p q. ap (try (lastIs p)) (place-at r p (in-use p q)))
-  where
-    in-use : (p : ℕ) → p ∈ around (r .len) (r .turn .cursor) (r .len) → p < r .len
-    in-use p q =
-        let i = around-member (r .len) (r .turn .cursor) (r .len) q in
-        rw (i .2) (mod-lt (r .turn .cursor + i .0) (omega (arith, i .1)))
+    map-same _ _ (ringPlaces r) (λ p q. ap (try (lastIs p)) (place-at r p (around-below (r .len) (r .turn .cursor) q)))

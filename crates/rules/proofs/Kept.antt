@@ -1,28 +1,27 @@
 -- Every call leaves a well-formed record well formed.
 -- Assumes nothing.
-use Prim.Native.Nat.{ℕ, _+_, _^_, _≤_, _<_, zero-le}
+use Prim.Native.Nat.{ℕ, _^_, _≤_, _<_}
 use mathlib.Core.Path.{_≡_, refl, sym, ap, _∙_}
 use mathlib.Core.Logic.{⊎-elim}
 use mathlib.Core.Bool.{Bool, true, false, _&&_, cond}
 use mathlib.Core.List.{List, [], _∷_, List·Memᴰ·head, List·Memᴰ·tail, List·Memᴰ·not-nil, List·Memᴰ·cases-cons}
 use mathlib.Core.Option.{Option, none, some}
-use native.Mathlib.Nat.{lt-of-le-of-lt, mod-lt}
+use native.Mathlib.Nat.{lt-of-le-of-lt}
 use native.Mathlib.Decide.{ℕ-discrete}
 use native.Mathlib.Omega.{arith}
 use lib.Dec.{leb, eqb}
 use lib.ListN.{length}
 use borrow.Author.Tests.{ltb-true, leb-true, eqb-true}
 use Rattle.rules.specs.Basics.{around, Each}
-use Rattle.rules.specs.Machine.{Machine, nodeCount, nodesOk, pagesOk, cpusOk, distancesOk, machineOk, pageTableOk, nodeOfCpu}
+use Rattle.rules.specs.Machine.{Machine, nodeCount, nodesOk, nodeOfCpu}
 use Rattle.rules.specs.Masks.{mostNodes, has, isEmpty}
 use Rattle.rules.specs.Records.{Mode, default, preferred, bind, interleave, list, ring, early, unknownMode, rowOf, Carries, nothing, aMask}
-use Rattle.rules.specs.Records.{aList, unknown}
+use Rattle.rules.specs.Records.{aList, unknown, aPlace}
 use Rattle.rules.specs.Records.{Flag, plain, static, relative, unknownFlag, carries, modeOf, flagOf, Policy, Turn, lastIs, Record, jobCount}
 use Rattle.rules.specs.Records.{jobTableOk, placesOf, recordAt, putRecord, unusedZero, cursorLimit, noMasks, effectiveFits, masksFit, dataFits}
 use Rattle.rules.specs.Records.{modeKnown, flagKnown, wellFormed, installed, rebound, withTurn}
 use Rattle.rules.specs.SearchOrder.{near, Try, try, Plan, nearest, placed, tried, nodeAt, ringTries, target, interleaved, planIn, modeInForce}
-use Rattle.rules.specs.SearchOrder.{plan, order}
-use Rattle.rules.specs.SearchOrder.{counted, chosen}
+use Rattle.rules.specs.SearchOrder.{ringPlaces, plan, order, counted, chosen}
 use Rattle.rules.specs.Decisions.{Decision, refuse, accept}
 use Rattle.rules.specs.Calls.{Tables, Change, Store, afterStores, applied, requestTablesOk, recordTablesOk, flagFits, policyKnown}
 use Rattle.rules.specs.Calls.{limitOf, orderOf}
@@ -31,7 +30,7 @@ use Rattle.rules.proofs.Admission.{Passes, accepted}
 use Rattle.rules.proofs.Bytes.{AreBytes}
 use Rattle.rules.proofs.Calls.{InstallPasses, RebindPasses, installs, rebinds, clears, releases, freshens}
 use Rattle.rules.proofs.InOrder.{release-ok, fresh-ok, pages-in-order}
-use Rattle.rules.proofs.Lists.{_∈_, both-true, both-hold, keep-member, first-keep, first-member, map-member, around-member}
+use Rattle.rules.proofs.Lists.{_∈_, both-true, both-hold, keep-member, first-keep, first-member, map-member, around-below}
 use Rattle.rules.proofs.Masks.{within-bits, below-width}
 use Rattle.rules.proofs.Records.{Storable, record-storable, fresh-storable, installed-storable, rebound-storable, turn-storable, record-same}
 use Rattle.rules.proofs.Records.{record-other, length-put}
@@ -62,14 +61,17 @@ module _ (n : ℕ) (distances : List ℕ) (limit : ℕ) (r : Record) (x : ℕ) (
   TurnsFit k (nearest set y turn) = Fits k turn
   TurnsFit k (placed ts) = (t : Try) → t ∈ ts → Fits k (t .turn)
 
-  -- "Ring sets it to the granted place": at most the list length
-  ring-turn : (k : Mode) → rowOf k .cursor ≡ rowOf ring .cursor → (t : Try) → t ∈ ringTries r → Fits k (t .turn)
-  unfolding ringTries Fits cursorLimit rowOf
+  -- place p for the last: within the limit of a mode whose cursor is a place
+  place-turn : (k : Mode) → rowOf k .cursor ≡ aPlace → (p : ℕ) → p < r .len → Fits k (lastIs p)
+  unfolding Fits cursorLimit
+  place-turn k e p below-len = rw e (below-len, refl)
+
+  -- "Ring sets it to the granted place"
+  ring-turn : (k : Mode) → rowOf k .cursor ≡ aPlace → (t : Try) → t ∈ ringTries r → Fits k (t .turn)
+  unfolding ringTries
   ring-turn k e t i =
-      let p = map-member (λ p. try (lastIs p) (nodeAt r p)) (around (r .len) (r .turn .cursor) (r .len)) i in
-      let a = around-member (r .len) (r .turn .cursor) (r .len) (p .1) in
-      let below-len : p .0 < r .len = rw (a .2) (mod-lt (r .turn .cursor + a .0) (lt-of-le-of-lt zero-le (a .1))) in
-      rw (e, p .2) (below-len, refl)
+      let p = map-member (λ p. try (lastIs p) (nodeAt r p)) (ringPlaces r) i in
+      rw (p .2) (place-turn k e (p .0) (around-below (r .len) (r .turn .cursor) (p .1)))
 
   to-target : (o : Option ℕ) → target (r .effective) (r .turn .cursor) ≡ o → TurnsFit interleave (interleaved limit o)
   unfolding TurnsFit Fits interleaved cursorLimit rowOf

@@ -8,7 +8,7 @@ use mathlib.Mathlib.Data.Bool.Basic.{eq-false-of-not-eq-true}
 use mathlib.Core.Option.{none, some}
 use mathlib.Core.List.{List, [], _∷_, _++_, map, append-assoc, append-nil, List·Memᴰ, List·Memᴰ·head, List·Memᴰ·tail, List·Memᴰ·not-nil}
 use mathlib.Core.List.{List·Memᴰ·cases-cons, List·Memᴰ·append-cases, Memᴰ·append-left, Memᴰ·append-right, Memᴰ·of-map}
-use native.Mathlib.Nat.{not-suc-le-zero, le-of-suc-le-suc, zero-lt-suc, add-zero, eq-or-lt-of-le}
+use native.Mathlib.Nat.{not-suc-le-zero, le-of-suc-le-suc, zero-lt-suc, add-zero, eq-or-lt-of-le, mod-lt}
 use native.Mathlib.Numerals.{add-one}
 use native.Mathlib.Omega.{arith}
 use lib.ListN.{length, getD, take, drop, take-append-drop}
@@ -299,7 +299,7 @@ each-from-suc {A} f a (suc k) =
     ∙ sym (append-assoc (f a) (each f (from (suc a) k)) (f (a + suc k)))
 
 -- a position in around n c k is that of one of the k numbers from c on
-pub around-member : (n c k : ℕ) {x : ℕ} → x ∈ around n c k → (i : ℕ) × (i < k) × (x ≡ (c + i) % n)
+around-member : (n c k : ℕ) {x : ℕ} → x ∈ around n c k → (i : ℕ) × (i < k) × (x ≡ (c + i) % n)
 unfolding around
 around-member n c zero h = absurd (List·Memᴰ·not-nil h)
 around-member n c (suc k) h =
@@ -307,6 +307,10 @@ around-member n c (suc k) h =
     (λ e. (0, omega arith, e ∙ ap (λ (y : ℕ). y % n) (sym (add-zero c))))
     (λ m. let r = around-member n (suc c) k m in (suc (r .0), omega (arith, r .1), r .2 ∙ ap (λ (y : ℕ). y % n) (omega arith)))
     (List·Memᴰ·cases-cons h)
+
+-- once round n positions, each is below n
+pub around-below : (n c : ℕ) {x : ℕ} → x ∈ around n c n → x < n
+around-below n c h = let i = around-member n c n h in rw (i .2) (mod-lt (c + i .0) (omega (arith, i .1)))
 
 -- ---- a test of each entry with its number
 

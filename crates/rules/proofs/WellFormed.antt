@@ -19,6 +19,7 @@ use Rattle.rules.specs.Records.{Flag, plain, static, relative, unknownFl
 use Rattle.rules.specs.Records.{Cursor, noCursor, aNode, aPlace, rowOf, modeOf, isKnown, modeKnown, placesPerJob, Policy, Record, decode, encode, fresh}
 use Rattle.rules.specs.Records.{unusedZero, allowedFits, cursorLimit, cursorFits, noMasks, effectiveFits, masksFit, dataFits, wellFormed}
 use Rattle.rules.specs.Records.{effectiveAtInstall, installed, effectiveAtRebind, rebound, openRecords}
+use Rattle.rules.specs.SearchOrder.{modeInForce}
 use Rattle.rules.specs.Calls.{flagFits, policyKnown, maskFits, policyFits}
 use Rattle.rules.proofs.Bytes.{AreBytes}
 use Rattle.rules.proofs.Lists.{both-true, both-hold, either-true}
@@ -131,6 +132,11 @@ carries-list n r e =
     let z = none-there r (p .0) in
     let l = both-true {a = leb 1 (r .len)} {b = leb (r .len) placesPerJob} (p .1) in
     (z .0, z .1, z .2, leb-true _ _ (l .0), leb-true _ _ (l .1))
+
+-- so such a mode is in force
+pub list-in-force : (n : ℕ) (r : Record) → Formed n r → carries (modeOf (r .mode)) ≡ aList → modeInForce r ≡ modeOf (r .mode)
+unfolding modeInForce
+list-in-force n r h e = rw (carries-list n r (rw e at (h .data-fits)) .0)
 
 -- the unused bits of a well-formed record are zero
 pub rest-zero : (n : ℕ) (r : Record) → Formed n r → r .turn .rest ≡ 0

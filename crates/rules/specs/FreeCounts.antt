@@ -1,5 +1,5 @@
--- Request M-100, "Free counts kept, not counted": when the counts match the page table, and the law without counts, document 01 as it stood
--- before M-100, which the calls then follow: "every call answers as before".
+-- Request M-100, "Free counts kept, not counted": when the counts match the page table, and the law without counts, document 01 with
+-- every amendment but M-100, which the calls then follow: "every call answers as before".
 use Prim.Native.Nat.{ℕ}
 use mathlib.Core.Path.{_≡_}
 use mathlib.Core.Bool.{Bool, _&&_}

@@ -41,10 +41,16 @@ pub data Plan : Type 0 where
 unfoldable pub nodeAt : Record → ℕ → ℕ
 nodeAt r p = getD (placesOf r) p 0
 
--- "Ring: places from one past the cursor, once round; from place 0 with no cursor" (the field holds one past the last place);
--- "Ring sets it to the granted place"
+-- "Ring: places from one past the cursor, once round; from place 0 with no cursor" (the field holds one past the last place)
+abbrev pub ringPlaces : Record → List ℕ
+ringPlaces r = around (r .len) (r .turn .cursor) (r .len)
+
+-- some places, one after the other; "Ring sets it to the granted place"
+abbrev pub placeTries : Record → List ℕ → List Try
+placeTries r ps = map (λ p. try (lastIs p) (nodeAt r p)) ps
+
 unfoldable pub ringTries : Record → List Try
-ringTries r = map (λ p. try (lastIs p) (nodeAt r p)) (around (r .len) (r .turn .cursor) (r .len))
+ringTries r = placeTries r (ringPlaces r)
 
 -- "the target t is the lowest effective node above the last target, else the lowest effective one": the first effective one of all
 -- nodes from one past the last target, once round
