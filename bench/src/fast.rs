@@ -58,11 +58,10 @@ pub fn request_at<const KEPT: bool>(
         }
         0 | 1 => free.near(map, allowed, home),
         mode => {
-            let first = if mode == 6 { free.place(record, 0) } else { None };
-            first.or_else(|| {
-                let (place, node) = free.round(record, cursor)?;
+            let first = if mode == 6 { free.place(record, 0).map(|node| (0, node)) } else { None };
+            first.or_else(|| free.round(record, cursor)).map(|(place, node)| {
                 cursor = if mode == 4 { 0 } else { place + 1 };
-                Some(node)
+                node
             })
         }
     };

@@ -3,3 +3,4 @@ pub mod Search
 pub mod Kept
 pub mod Fair
 pub mod Barred
+pub mod Early

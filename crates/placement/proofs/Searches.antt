@@ -16,7 +16,7 @@ use Rattle.rules.specs.SearchOrder.{Try, try, tried, counted, chosen}
 use Rattle.rules.proofs.Lists.{both-true, keep-append}
 use Rattle.records.specs.Jobs.{turnOf}
 use Rattle.placement.specs.declared.plan.Walk.{Walk}
-use Rattle.placement.specs.Plans.{leaves, earlyTries, roundTries, walkTries}
+use Rattle.placement.specs.Plans.{leaves, tryPlace, earlyTries, roundTries, walkTries}
 
 -- ---- one try, and then the rest
 
@@ -112,17 +112,20 @@ module _ (free : List ℕ) (n limit : ℕ) (w : Walk) (places : List ℕ) where
   unfolding walkTries tried
   walk-tries = keep-append _ (earlyTries w places) _
 
+  -- the try of place 0
+  abbrev first-place : Try
+  first-place = tryPlace (w .moves) places (turnOf (w .cursor)) 0
+
   -- place 0 is open, and comes first
-  pub early-first : w .early ≡ true → isOpen free n limit (getD places 0 0) ≡ true
-      → chosen free (tried n limit (walkTries w places)) ≡ some (try (turnOf (w .cursor)) (getD places 0 0))
+  pub early-first : w .early ≡ true → isOpen free n limit (getD places 0 0) ≡ true → chosen free (tried n limit (walkTries w places)) ≡ some first-place
   unfolding earlyTries
-  early-first e o = rw (walk-tries, e) (open-first free n limit (try (turnOf (w .cursor)) (getD places 0 0)) (tried n limit round) o)
+  early-first e o = rw (walk-tries, e) (open-first free n limit first-place (tried n limit round) o)
 
   -- it is not open: the round chooses
   pub early-rest : w .early ≡ true → isOpen free n limit (getD places 0 0) ≡ false
       → chosen free (tried n limit (walkTries w places)) ≡ chosen free (tried n limit round)
   unfolding earlyTries
-  early-rest e o = rw (walk-tries, e) (open-rest free n limit (try (turnOf (w .cursor)) (getD places 0 0)) (tried n limit round) o)
+  early-rest e o = rw (walk-tries, e) (open-rest free n limit first-place (tried n limit round) o)
 
   -- the walk is not early
   pub not-early : w .early ≡ false → chosen free (tried n limit (walkTries w places)) ≡ chosen free (tried n limit round)

@@ -17,17 +17,21 @@ use Rattle.placement.specs.declared.plan.Plan.the-variants.{Near, Places
 abbrev pub walkWith : Bool → Bool → ℕ → ℕ → Walk
 walkWith early moves len cursor = record { early = early; moves = moves; len = len; cursor = cursor }
 
--- "Ring sets it to the granted place"; in a list the turn stays
+-- "Ring sets it to the granted place", and so does early (M-101); in a list the turn stays
 unfoldable pub leaves : Bool → Turn → ℕ → Turn
 leaves moves turn p = cond moves (lastIs p) turn
 
+-- the try of place p
+abbrev pub tryPlace : Bool → List ℕ → Turn → ℕ → Try
+tryPlace moves places turn p = try (leaves moves turn p) (getD places p 0)
+
 -- "places from one past the cursor, once round": k of len places, from position c on
 unfoldable pub roundTries : Bool → List ℕ → Turn → ℕ → ℕ → ℕ → List Try
-roundTries moves places turn len c k = map (λ p. try (leaves moves turn p) (getD places p 0)) (around len c k)
+roundTries moves places turn len c k = map (tryPlace moves places turn) (around len c k)
 
--- "Early: place 0, then as ring"; where place 0 serves at once the turn stays
+-- "Early: place 0, then as ring"
 unfoldable pub earlyTries : Walk → List ℕ → List Try
-earlyTries w places = cond (w .early) (try (turnOf (w .cursor)) (getD places 0 0) ∷ []) []
+earlyTries w places = cond (w .early) (tryPlace (w .moves) places (turnOf (w .cursor)) 0 ∷ []) []
 
 -- the tries of a walk
 unfoldable pub walkTries : Walk → List ℕ → List Try

@@ -10,7 +10,7 @@ use records::job::Job;
 use records::job::Mode;
 use rules::Node;
 
-// A walk over the places of a list, from the cursor on, once round. `early`: place 0 comes before it, with the cursor as it was.
+// A walk over the places of a list, from the cursor on, once round. `early`: place 0 comes before it.
 // `moves`: a place that grants leaves itself for the last one; else the cursor stays.
 pub struct Walk {
     pub early: bool,

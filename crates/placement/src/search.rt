@@ -106,7 +106,7 @@ fn search_places(free: &[u32], limit: Mask, places: [u8; PLACES_PER_JOB], walk: 
     if walk.early {
         let first = Node(places[0]);
         if is_open(free, limit, first) {
-            return Chosen::At(first, walk.cursor);
+            return Chosen::At(first, cursor_after(walk, Place(0)));
         }
     }
     search_round(free, limit, places, walk)

@@ -35,7 +35,7 @@ use Rattle.rules.proofs.Masks.{within-bits, below-width}
 use Rattle.rules.proofs.Records.{Storable, record-storable, fresh-storable, installed-storable, rebound-storable, turn-storable, record-same}
 use Rattle.rules.proofs.Records.{record-other, length-put}
 use Rattle.rules.proofs.WellFormed.{Formed, formed, well-formed, effective-within, rebound-formed, mode-small, flag-small, few-places}
-use Rattle.rules.proofs.WellFormed.{installed-formed, fresh-formed, limit-small, some-pos, rest-zero}
+use Rattle.rules.proofs.WellFormed.{installed-formed, fresh-formed, limit-small, some-pos, rest-zero, carries-list}
 
 -- ---- the turn that a grant leaves
 
@@ -86,7 +86,9 @@ module _ (n : ℕ) (distances : List ℕ) (limit : ℕ) (r : Record) (x : ℕ) (
   moves interleave e = to-target (target (r .effective) (r .turn .cursor)) refl
   moves list e = λ t i. rw (map-member (try (r .turn)) (placesOf r) i .2) (stays list e)
   moves ring e = λ t i. ring-turn ring refl t i
-  moves early e = λ t i. ⊎-elim (λ q. rw q (stays early e)) (λ q. ring-turn early refl t q) (List·Memᴰ·cases-cons i)
+  moves early e =
+      let first = place-turn early refl 0 (carries-list n r (rw e at (h .data-fits)) .3) in
+      λ t i. ⊎-elim (λ q. rw q first) (λ q. ring-turn early refl t q) (List·Memᴰ·cases-cons i)
   moves unknownMode e = λ t i. absurd (List·Memᴰ·not-nil i)
 
   planned-fits : (k : Mode) (p : Plan) → TurnsFit k p → (t : Try) → t ∈ order n distances limit p → Fits k (t .turn)

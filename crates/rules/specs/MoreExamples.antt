@@ -138,10 +138,10 @@ runs =
     ∷ nearTo apart 0 (0 ∷ [])
     ∷ run apart (rebind 0 2 ∷ ask ∷ []) (done ∷ refused 8 ∷ [])
     ∷ run machineA (rebind 0 14 ∷ ask ∷ []) (done ∷ page 2 ∷ [])
-    -- early keeps its cursor where place 0 serves
+    -- M-101: "after pages 0,1,2 and release of page 0, two requests now give page 0 and then page 3"
     ∷ run machineA
     (setUp 6 0 0 (0 ∷ 1 ∷ 3 ∷ []) ++ (ask ∷ ask ∷ ask ∷ release 0 0 ∷ ask ∷ ask ∷ []))
-    (done ∷ done ∷ page 0 ∷ page 1 ∷ page 2 ∷ released 0 0 ∷ page 0 ∷ page 4 ∷ [])
+    (done ∷ done ∷ page 0 ∷ page 1 ∷ page 2 ∷ released 0 0 ∷ page 0 ∷ page 3 ∷ [])
     -- bind goes by the CPU's node, preferred by the lowest effective node, or by the CPU's node with an empty mask
     ∷ run machineA (setUp 2 0 15 [] ++ (request 0 6 ∷ [])) (done ∷ done ∷ page 4 ∷ [])
     ∷ run machineA (setUp 1 0 (nodes (1 ∷ 3 ∷ [])) [] ++ (request 0 6 ∷ [])) (done ∷ done ∷ page 2 ∷ [])

@@ -62,7 +62,8 @@ unfoldable pub interleaved : ℕ → Option ℕ → Plan
 interleaved limit none = placed []
 interleaved limit (some t) = nearest limit t (lastIs t)
 
--- "Search order", mode by mode. `limit` is the set of nodes that the job may get, x the CPU's node.
+-- "Search order", mode by mode. `limit` is the set of nodes that the job may get, x the CPU's node. "Early: place 0, then as ring"; M-101:
+-- "any grant in mode 6 sets the cursor to the granted place".
 unfoldable pub planIn : Mode → ℕ → Record → ℕ → Plan
 planIn default limit r x = nearest limit x (r .turn)
 planIn preferred limit r x = nearest limit (cond (isEmpty (r .user)) x (lowest mostNodes (r .effective))) (r .turn)
@@ -70,7 +71,7 @@ planIn bind limit r x = nearest (both limit (r .effective)) x (r .turn)
 planIn interleave limit r x = interleaved limit (target (r .effective) (r .turn .cursor))
 planIn list limit r x = placed (map (try (r .turn)) (placesOf r))
 planIn ring limit r x = placed (ringTries r)
-planIn early limit r x = placed (try (r .turn) (nodeAt r 0) ∷ ringTries r)
+planIn early limit r x = placed (try (lastIs 0) (nodeAt r 0) ∷ ringTries r)
 planIn unknownMode limit r x = placed []
 
 -- "Default, and any mode with static and an empty effective set: near(CPU's node)"

@@ -166,8 +166,19 @@ fn on_ten(name: &str, allowed: &[usize], flag: u8, user: &[usize]) -> Example {
 
 /// Every example of the table.
 pub fn all() -> Vec<Example> {
-    [pages(), masks(), sixteen_places(), node_63(), easy_to_get_wrong(), policies(), places(), reach(), free_counts()]
-        .concat()
+    [
+        pages(),
+        masks(),
+        sixteen_places(),
+        node_63(),
+        easy_to_get_wrong(),
+        policies(),
+        early(),
+        places(),
+        reach(),
+        free_counts(),
+    ]
+    .concat()
 }
 
 /// "Shown by example": pages on machine A.
@@ -350,19 +361,37 @@ fn policies() -> Vec<Example> {
     examples
 }
 
-/// Likewise: places that are passed over, and early's cursor.
+/// M-101: "any grant in mode 6 sets the cursor to the granted place".
+fn early() -> Vec<Example> {
+    vec![
+        Example::on_a("early {0,1,3}: pages 0,1,2, release of page 0, then pages 0 and 3", EARLY, 0, &[0, 1, 3])
+            .grants(0, &[(0, 0)])
+            .cursor(1)
+            .grants(0, &[(0, 1), (1, 2)])
+            .cursor(2)
+            .release(0, 0)
+            .grants(0, &[(0, 0)])
+            .cursor(1)
+            .grants(0, &[(1, 3)])
+            .cursor(2),
+        Example::on_a("a node named twice: early's place 0 is the place that granted", EARLY, 0, &[3, 0, 3, 1])
+            .grants(0, &[(3, 4), (3, 5)])
+            .cursor(1)
+            .grants(0, &[(0, 0)])
+            .cursor(2)
+            .release(3, 5)
+            .grants(0, &[(3, 5)])
+            .cursor(1)
+            .grants(0, &[(0, 1), (1, 2), (1, 3)])
+            .cursor(4)
+            .no_room(0)
+            .cursor(4),
+    ]
+}
+
+/// Likewise: places that are passed over.
 fn places() -> Vec<Example> {
     vec![
-        Example::on_a("early moves its cursor only after place 0", EARLY, 0, &[0, 1, 3])
-            .grants(0, &[(0, 0), (0, 1)])
-            .cursor(0)
-            .grants(0, &[(1, 2)])
-            .cursor(2)
-            .release(0, 1)
-            .grants(0, &[(0, 1)])
-            .cursor(2)
-            .grants(0, &[(3, 4)])
-            .cursor(3),
         Example::on_a("places at N or above are passed over", RING, 0, &[4, 255, 1, 0])
             .grants(0, &[(1, 2), (0, 0), (1, 3), (0, 1)])
             .no_room(0),

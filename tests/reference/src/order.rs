@@ -9,9 +9,7 @@ use crate::record::{Record, BIND, EARLY, INTERLEAVE, LIST, PREFERRED, RING, STAT
 pub enum Part {
     /// From near(x): modes 0 to 3.
     Near,
-    /// "Early: place 0" first of all.
-    EarlyFirst,
-    /// A place of a list, or of the ring part of ring and early.
+    /// A place of a list: modes 4 to 6.
     Place(usize),
 }
 
@@ -159,15 +157,10 @@ fn next_place(length: usize, place: usize) -> usize {
 }
 
 /// "Early: place 0, then as ring" (Search order).
-fn early(nodes: usize, record: &Record) -> Vec<Try> {
-    let mut tries = Vec::new();
-    if place_is_allowed(nodes, record, 0) {
-        let node = usize::from(record.places[0]);
-        tries.push(Try { node, part: Part::EarlyFirst });
-    }
-    let turn = ring_turn(usize::from(record.length), record.cursor);
-    tries.extend(tries_of_places(nodes, record, &turn));
-    tries
+fn early_turn(length: usize, cursor_field: u8) -> Vec<usize> {
+    let mut turn = vec![0];
+    turn.extend(ring_turn(length, cursor_field));
+    turn
 }
 
 /// The whole search order of a well-formed record for a request from a CPU (Search order).
@@ -183,12 +176,13 @@ pub fn search_order(map: Map, record: &Record, cpu: usize) -> Vec<Try> {
         INTERLEAVE => as_near(interleave(map, record)),
         LIST => tries_of_places(map.nodes, record, &list_turn(length)),
         RING => tries_of_places(map.nodes, record, &ring_turn(length, record.cursor)),
-        EARLY => early(map.nodes, record),
+        EARLY => tries_of_places(map.nodes, record, &early_turn(length, record.cursor)),
         _ => as_near(near(map, record.allowed, cpu_node)),
     }
 }
 
-/// The cursor field after a grant from this try; all other modes keep theirs (Search order, last paragraph).
+/// The cursor field after a grant from this try (Search order, last paragraph); "any grant in mode 6 sets the cursor to the granted place"
+/// (M-101); all other modes keep theirs.
 pub fn cursor_after_grant(record: &Record, granted: Try) -> u8 {
     match record.mode {
         INTERLEAVE => match target(record) {
@@ -197,7 +191,7 @@ pub fn cursor_after_grant(record: &Record, granted: Try) -> u8 {
         },
         RING | EARLY => match granted.part {
             Part::Place(place) => place as u8 + 1,
-            Part::EarlyFirst | Part::Near => record.cursor,
+            Part::Near => record.cursor,
         },
         _ => record.cursor,
     }
@@ -230,6 +224,14 @@ mod tests {
         assert_eq!(ring_turn(3, 1), vec![1, 2, 0]);
         assert_eq!(ring_turn(3, 3), vec![0, 1, 2]);
         assert_eq!(ring_turn(1, 1), vec![0]);
+    }
+
+    #[test]
+    fn early_tries_place_0_and_then_goes_on_one_past_its_cursor() {
+        assert_eq!(early_turn(3, 0), vec![0, 0, 1, 2]);
+        assert_eq!(early_turn(3, 1), vec![0, 1, 2, 0]);
+        assert_eq!(early_turn(3, 2), vec![0, 2, 0, 1]);
+        assert_eq!(early_turn(1, 1), vec![0, 0]);
     }
 
     #[test]

@@ -6,14 +6,22 @@ use borrow.Author.Needs.{needs}
 use lib.ListN.{length}
 use Rattle.rules.specs.SearchOrder.{tried, chosen}
 use Rattle.records.specs.Jobs.{turnOf}
-use Rattle.placement.specs.Plans.{roundTries, walkTries}
+use Rattle.placement.specs.Plans.{leaves, roundTries, walkTries}
 use Rattle.placement.proofs.Searches.{early-first, early-rest, not-early}
 use Rattle.placement.proofs.search.search_places.Statement.{statement}
 use Rattle.placement.proofs.search.search_places.Tie as tie
 
+-- the turn that place 0 leaves
+left : (c : tie.After-cursor-after) → let w = c .before .before .before .before .before .args .walk in
+    turnOf (c .cursor-after .result) ≡ leaves (w .moves) (turnOf (w .cursor)) 0
+left c = c .cursor-after .ensures
+
 -- place 0 is open
 returns : tie.Need-returns
-returns c = sym (early-first _ _ _ _ _ (c .before .before .if1 .taken) (sym (c .before .is-open .ensures) ∙ c .if2 .taken))
+returns c =
+    let tested = c .before .before in
+    rw (left c)
+    (sym (early-first _ _ _ _ _ (tested .before .if1 .taken) (sym (tested .is-open .ensures) ∙ c .before .if2 .taken)))
 
 -- it is not, or the walk is not early
 rest : (c : tie.Joined1) → let a = c .before .before .args in
@@ -31,4 +39,4 @@ returns-2 : tie.Need-returns-2
 returns-2 c = c .search-round .ensures ∙ sym (rest (c .before))
 
 pub search-places-spec : {M : Type 1} → statement M
-search-places-spec = tie.close (tie.spec (search needs) (search needs) returns (search needs) returns-2)
+search-places-spec = tie.close (tie.spec (search needs) (search needs) (search needs) returns (search needs) returns-2)

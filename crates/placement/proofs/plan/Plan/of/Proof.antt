@@ -17,7 +17,7 @@ use Rattle.rules.proofs.WellFormed.{Formed, formed, carries-list}
 use Rattle.nodemask.specs.Found.{foundNode}
 use Rattle.records.specs.declared.job.Mode.{Mode}
 use Rattle.records.specs.Jobs.{carriedIn, recordWith, jobOf}
-use Rattle.placement.specs.Plans.{walkTries, earlyTries}
+use Rattle.placement.specs.Plans.{leaves, walkTries, earlyTries}
 use Rattle.placement.proofs.Plans.{effective-lt, lowest-below, target-below, some-target, no-target, default-plan, preferred-plan}
 use Rattle.placement.proofs.Plans.{bind-plan, interleave-plan, none-effective, some-user, list-plan, list-tries, place-at, ring-tries}
 use Rattle.placement.proofs.plan.Plan.of.Statement.{statement}
@@ -160,7 +160,7 @@ returns-9 c =
 
 -- early
 returns-10 : tie.Need-returns-10
-unfolding jobOf recordWith walkTries earlyTries rowOf planIn cursorLimit
+unfolding jobOf recordWith walkTries earlyTries leaves rowOf planIn cursorLimit
 returns-10 c =
     let s = c .before .before .before .before in
     let e = c .before .before .mode6 .given .1 in
