@@ -34,7 +34,7 @@ fn cpus_ok(nodes: usize, cpus: &[u8]) -> bool {
 }
 
 /// The distance table has N x N bytes, none below 10, and 10 on the diagonal.
-fn distances_ok(nodes: usize, distances: &[u8]) -> bool {
+pub fn distances_ok(nodes: usize, distances: &[u8]) -> bool {
     distances.len() == nodes * nodes
         && distances.iter().fold(255, |least, one| (*one).min(least)) >= 10
         && (0..nodes).all(|node| distances[node * (nodes + 1)] == 10)

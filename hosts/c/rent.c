@@ -75,6 +75,20 @@ static void show_nodes(const char *text)
     printf("nodes %s: mask %llu, written %.*s\n", text, (unsigned long long)mask.value, (int)length.value, (const char *)out);
 }
 
+static void show_near(size_t node)
+{
+    uint8_t out[NODES];
+    struct spire_order order = spire_near(NODES, distances, sizeof distances, 0xF, node, out, sizeof out);
+    if (order.refusal != SPIRE_DONE) {
+        printf("near %zu: refused %u\n", node, (unsigned)order.refusal);
+        return;
+    }
+    printf("near %zu:", node);
+    for (size_t place = 0; place < order.nodes; place++)
+        printf(" %u", (unsigned)out[place]);
+    printf(", in %lu rounds\n", (unsigned long)order.rounds);
+}
+
 int main(void)
 {
     static const uint8_t places[] = {3, 3, 1};
@@ -105,5 +119,7 @@ int main(void)
 
     show_nodes("!1-2");
     show_nodes("5-3");
+    show_near(0);
+    show_near(2);
     return 0;
 }

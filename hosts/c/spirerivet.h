@@ -37,7 +37,7 @@ enum spire_refusal {
     SPIRE_NO_SUCH_CPU = 3,
     SPIRE_MALFORMED_RECORD = 4,   /* the job's six words are no record; clear makes them one */
     SPIRE_UNKNOWN_POLICY = 5,     /* no such mode or flag, or a flag that this mode does not take */
-    SPIRE_DOES_NOT_FIT = 6,       /* the mask or the places do not fit */
+    SPIRE_DOES_NOT_FIT = 6,       /* the mask, the places or the node do not fit */
     SPIRE_NOTHING_ALLOWED = 7,    /* the allowed set is empty */
     SPIRE_NO_ROOM = 8,            /* every node in the search order is counted 0: full, if the counts match */
     SPIRE_NOTHING_EFFECTIVE = 9,  /* the rebind would leave the job's mask empty */
@@ -75,6 +75,13 @@ struct spire_number {
     uint64_t value;
 };
 
+/* near(x) as listed: how many nodes, and in how many rounds of its loops; 0 and 0 on a refusal. */
+struct spire_order {
+    uint8_t refusal;
+    uint8_t nodes;
+    uint32_t rounds;
+};
+
 /* A page for a job that runs on a CPU: its node and its number. Nodes counted 0 are passed over. Writes pages, jobs and
  * free_counts. Refusals 1, 2, 3, 4, 14, 8. */
 struct spire_answer spire_request(const uint32_t *counts, size_t nodes, const uint8_t *cpus, size_t cpu_count,
@@ -108,6 +115,13 @@ struct spire_number spire_read_nodes(size_t nodes, uint64_t allowed, const uint8
 
 /* The node list of a mask, with no zero byte at its end: its length. Writes that many bytes of out. Refusals 1, 6, 11. */
 struct spire_number spire_write_nodes(size_t nodes, uint64_t mask, uint8_t *out, size_t out_bytes);
+
+/* near(x), x being `node`, over a set of nodes: x first if it is in the set, then the others of the set at a distance below
+ * 255 in row x, nearer first, the lower number first when equal. Writes a byte for each of these nodes at the start of out;
+ * 64 bytes are always enough. Takes a round for each node of the machine, then one for each node listed other than x: at most
+ * 127. Refusals 1, 6, 11. */
+struct spire_order spire_near(size_t nodes, const uint8_t *distances, size_t distance_count, uint64_t set, size_t node,
+                              uint8_t *out, size_t out_bytes);
 
 /* A list of calls, one after the other: how many. A call is SPIRE_CALL_WORDS words: kind (1 request, 2 release, 3 rebind,
  * 4 install, 5 clear, 16 fresh); job; CPU, page, allowed mask or mode; flag; user mask; number of places; two words unused;

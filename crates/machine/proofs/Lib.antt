@@ -1,4 +1,6 @@
 pub mod Tables
 pub mod Nodes
-pub mod Listing
+pub mod Chains
+pub mod Walks
+pub mod NearCall
 pub mod FirstNode

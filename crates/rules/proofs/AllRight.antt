@@ -1,4 +1,4 @@
--- Each example of the three tables is right. (Files are checked by name, and what they use first: so a rule that breaks an example is refused
+-- Each example of the four tables is right. (Files are checked by name, and what they use first: so a rule that breaks an example is refused
 -- at the table, which computes, before any proof.)
 -- Assumes nothing.
 use mathlib.Core.Path.{_≡_, refl}
@@ -8,6 +8,7 @@ use lib.Dec.{T}
 use Rattle.rules.specs.Examples as marked
 use Rattle.rules.specs.MoreExamples as more
 use Rattle.rules.specs.CountExamples as counts
+use Rattle.rules.specs.NearExamples as nears
 use Rattle.rules.proofs.Lists.{_∈_, all-true}
 
 -- a computed test that holds
@@ -26,3 +27,7 @@ more-right h = all-true more.right (is-true _ more.all-right) h
 -- M-100 by examples
 pub counts-right : {e : counts.Example} → e ∈ counts.table → counts.right e ≡ true
 counts-right h = all-true counts.right (is-true _ counts.all-right) h
+
+-- M-102 by examples
+pub near-right : {e : nears.Example} → e ∈ nears.table → nears.right e ≡ true
+near-right h = all-true nears.right (is-true _ nears.all-right) h

@@ -12,10 +12,11 @@ use lib.Dec.{ltb, eqb}
 use lib.ListN.{length, getD, drop, set, replicate, length-set}
 use lib.Seq.{getD-set-same, getD-set-other, ext-getD}
 use Rattle.rules.specs.Basics.{keep, first, isNil, count, from, sum}
-use Rattle.rules.specs.Machine.{firstPage, pagesOf, nodeOfPage}
+use Rattle.rules.specs.Machine.{firstPage, pagesOf}
 use Rattle.rules.specs.SearchOrder.{Try, freePages, hasRoom, counted, chosen}
 use Rattle.rules.specs.Calls.{write, afterWrites}
 use Rattle.rules.specs.FreeCounts.{freeCounts, firstWithRoom}
+use Rattle.rules.proofs.Lists.{keep-same}
 use Rattle.rules.proofs.Admission.{isFree}
 use Rattle.rules.proofs.Pages.{PageOf, page-lt, page-node, page-node-lt}
 
@@ -78,11 +79,6 @@ some-length (x ∷ xs) = lt-ltb 0 (suc (length xs)) (omega arith)
 pub counted-room : (counts ledger : List ℕ) (n : ℕ) → counted (freeCounts counts ledger) n ≡ hasRoom counts ledger n
 unfolding counted hasRoom
 counted-room counts ledger n = ap (ltb 0) (count-is counts ledger n) ∙ some-length (freePages counts ledger n)
-
-keep-same : {A : Type 0} (p q : A → Bool) (xs : List A) → ((x : A) → p x ≡ q x) → keep p xs ≡ keep q xs
-unfolding keep
-keep-same p q [] h = refl
-keep-same p q (x ∷ xs) h = rw (h x, keep-same p q xs h)
 
 -- and the first node in an order that is counted above 0 is the first with a free page
 pub chosen-with-room : (counts ledger : List ℕ) (ts : List Try) → chosen (freeCounts counts ledger) ts ≡ firstWithRoom counts ledger ts

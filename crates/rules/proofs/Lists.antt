@@ -8,7 +8,7 @@ use mathlib.Mathlib.Data.Bool.Basic.{eq-false-of-not-eq-true}
 use mathlib.Core.Option.{none, some}
 use mathlib.Core.List.{List, [], _∷_, _++_, map, append-assoc, append-nil, List·Memᴰ, List·Memᴰ·head, List·Memᴰ·tail, List·Memᴰ·not-nil}
 use mathlib.Core.List.{List·Memᴰ·cases-cons, List·Memᴰ·append-cases, Memᴰ·append-left, Memᴰ·append-right, Memᴰ·of-map}
-use native.Mathlib.Nat.{not-suc-le-zero, le-of-suc-le-suc, zero-lt-suc, add-zero, eq-or-lt-of-le, mod-lt}
+use native.Mathlib.Nat.{not-suc-le-zero, le-of-suc-le-suc, zero-lt-suc, zero-add, add-zero, suc-add, add-suc, eq-or-lt-of-le, mod-lt}
 use native.Mathlib.Numerals.{add-one}
 use native.Mathlib.Omega.{arith}
 use lib.ListN.{length, getD, take, drop, take-append-drop}
@@ -94,6 +94,12 @@ module _ {A : Type 0} where
           → cond b (x ∷ keep p (xs ++ ys)) (keep p (xs ++ ys)) ≡ cond b (x ∷ keep p xs) (keep p xs) ++ keep p ys
       go true e = ap (λ (l : List A). x ∷ l) e
       go false e = e
+
+  -- tests that agree keep the same
+  pub keep-same : (p q : A → Bool) (xs : List A) → ((x : A) → p x ≡ q x) → keep p xs ≡ keep q xs
+  unfolding keep
+  keep-same p q [] h = refl
+  keep-same p q (x ∷ xs) h = rw (h x, keep-same p q xs h)
 
   -- to keep twice is to keep by both tests
   pub keep-keep : (p q : A → Bool) (xs : List A) → keep q (keep p xs) ≡ keep (λ x. p x && q x) xs
@@ -272,6 +278,22 @@ module _ {A B : Type 0} where
   each-same f g [] h = refl
   each-same f g (x ∷ xs) h = ap₂ (λ (a b : List B). a ++ b) (h x (List·Memᴰ·head refl)) (each-same f g xs (λ y m. h y (List·Memᴰ·tail m)))
 
+  -- where each one's list is empty there is nothing
+  pub each-none : (f : A → List B) (xs : List A) → ((x : A) → x ∈ xs → f x ≡ []) → each f xs ≡ []
+  unfolding each
+  each-none f [] h = refl
+  each-none f (x ∷ xs) h = rw (h x (List·Memᴰ·head refl)) (each-none f xs (λ y m. h y (List·Memᴰ·tail m)))
+
+  -- those of xs whose list is empty need not be kept
+  pub each-keep : (f : A → List B) (p : A → Bool) (xs : List A) → ((x : A) → x ∈ xs → p x ≡ false → f x ≡ []) → each f (keep p xs) ≡ each f xs
+  unfolding each keep
+  each-keep f p [] h = refl
+  each-keep f p (x ∷ xs) h = go (p x) refl (each-keep f p xs (λ y m. h y (List·Memᴰ·tail m)))
+    where
+      go : (b : Bool) → p x ≡ b → each f (keep p xs) ≡ each f xs → each f (cond b (x ∷ keep p xs) (keep p xs)) ≡ f x ++ each f xs
+      go true e ih = ap (λ (l : List B). f x ++ l) ih
+      go false e ih = rw (h x (List·Memᴰ·head refl) e) ih
+
   -- one of map f xs is f x for some x
   pub map-member : (f : A → B) (xs : List A) {y : B} → y ∈ map f xs → (x : A) × (x ∈ xs) × (y ≡ f x)
   map-member f xs h = let r = Memᴰ·of-map f xs h in (r .0, r .1, sym (r .2))
@@ -289,6 +311,20 @@ unfolding from
 member-from a zero n h l = absurd (omega arith)
 member-from a (suc k) n h l =
     ⊎-elim (λ e. List·Memᴰ·head (sym e)) (λ m. List·Memᴰ·tail (member-from (suc a) k n m (omega arith))) (eq-or-lt-of-le h)
+
+-- the lists of numbers that are each a more
+pub each-shift : {A : Type 0} (f : ℕ → List A) (a b k : ℕ) → each (λ i. f (a + i)) (from b k) ≡ each f (from (a + b) k)
+unfolding each from
+each-shift f a b zero = refl
+each-shift {A} f a b (suc k) = ap (λ (l : List A). f (a + b) ++ l) (each-shift f a (suc b) k ∙ ap (λ (c : ℕ). each f (from c k)) (add-suc a b))
+
+-- the lists of the numbers of two parts
+pub each-from-add : {A : Type 0} (f : ℕ → List A) (a j k : ℕ) → each f (from a (j + k)) ≡ each f (from a j) ++ each f (from (a + j) k)
+unfolding each from
+each-from-add f a zero k = rw (zero-add k, add-zero a)
+each-from-add {A} f a (suc j) k =
+    rw (suc-add j k) (ap (λ (l : List A). f a ++ l) (each-from-add f (suc a) j k ∙ ap (λ (c : ℕ). each f (from (suc a) j) ++ each f (from c k)) (omega arith)))
+    ∙ sym (append-assoc (f a) (each f (from (suc a) j)) (each f (from (a + suc j) k)))
 
 -- the lists of one number more, at the end
 pub each-from-suc : {A : Type 0} (f : ℕ → List A) (a k : ℕ) → each f (from a (suc k)) ≡ each f (from a k) ++ f (a + k)

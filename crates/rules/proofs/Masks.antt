@@ -6,7 +6,7 @@ use mathlib.Core.Bool.{Bool, true, false, not, _&&_, _||_, cond, and-false}
 use Prim.Native.Nat.{ℕ, zero, suc, _+_, _-_, _*_, _/_, _%_, _^_, _≤_, _<_, zero-le, suc-le-suc, min, max}
 use native.Mathlib.Nat.{eq-zero-or-pos, pos-of-ne-zero, le-refl, le-trans, lt-of-lt-of-le, lt-of-le-of-lt, le-of-suc-le-suc, not-suc-le-zero, zero-lt-suc}
 use native.Mathlib.Nat.{zero-add, add-zero, add-comm, one-mul, zero-mul, mod-lt, mod-eq-of-lt, div-eq-of-lt, mod-one}
-use native.Mathlib.Numerals.{add-one, one-add}
+use native.Mathlib.Numerals.{one-add}
 use native.Mathlib.Omega.{arith}
 use native.Mathlib.Decide.{le-ind, ℕ-discrete, decLt}
 use native.Mathlib.Nat.{add-suc, lt-of-not-le, eq-or-lt-of-le, div-self, div-one, lt-irrefl, div-lt-iff-lt-mul, sub-le}
@@ -255,6 +255,16 @@ bit-below-out k n h = bit-above k (allNodes k) n (ones-lt k) h
 pub bit-insert : (m n k : ℕ) → bit (insert m n) k ≡ max (bit m k) (bit (2 ^ n) k)
 bit-insert m n k = ap (λ (x : ℕ). bit x k) (sym (or-one m n)) ∙ bit-or m (2 ^ n) k
 
+-- it has that node
+pub has-insert : (m n : ℕ) → has (insert m n) n ≡ true
+has-insert m n = eq-eqb (bit (insert m n) n) 1 (bit-insert m n n ∙ omega (arith, bit-one n, bit-lt m n))
+
+-- and any other where it had it
+pub has-insert-other : (m n k : ℕ) → (k ≡ n → ⊥) → has (insert m n) k ≡ has m k
+has-insert-other m n k d =
+    let e : bit (insert m n) k ≡ bit m k = bit-insert m n k ∙ omega (arith, bit-other n k (λ q. d (sym q))) in
+    ap (λ (x : ℕ). eqb x 1) e
+
 -- a node below w leaves a mask of w bits
 pub insert-lt : (w m n : ℕ) → m < 2 ^ w → n < w → insert m n < 2 ^ w
 insert-lt w m n h l = subst (λ (x : ℕ). x < 2 ^ w) (or-one m n) (or-lt w m (2 ^ n) h (pow-lt l))
@@ -462,15 +472,12 @@ top-insert w r h = ap (λ (x : ℕ). r + x) (sym (one-mul (2 ^ w)) ∙ ap (λ (x
 
 has-top : (w r : ℕ) (b : Bool) → r < 2 ^ w → has (r + cond b (2 ^ w) 0) w ≡ b
 has-top w r true h =
-    ap (λ (x : ℕ). has x w) (top-insert w r h)
-    ∙ eq-eqb (bit (insert r w) w) 1 (bit-insert r w w ∙ omega (arith, bit-one w, bit-lt r w))
+    ap (λ (x : ℕ). has x w) (top-insert w r h) ∙ has-insert r w
 has-top w r false h =
     ap (λ (x : ℕ). has x w) (add-zero r) ∙ ne-eqb (bit r w) 1 (λ e. omega (arith, bit-above w r w h (le-refl w)))
 
 has-under : (w n r : ℕ) (b : Bool) → r < 2 ^ w → n < w → has (r + cond b (2 ^ w) 0) n ≡ has r n
-has-under w n r true h l =
-    let e : bit (insert r w) n ≡ bit r n = bit-insert r w n ∙ omega (arith, bit-other w n (λ q. lt-irrefl n (omega arith))) in
-    ap (λ (x : ℕ). has x n) (top-insert w r h) ∙ ap (λ (x : ℕ). eqb x 1) e
+has-under w n r true h l = ap (λ (x : ℕ). has x n) (top-insert w r h) ∙ has-insert-other r w n (λ q. lt-irrefl n (omega arith))
 has-under w n r false h l = ap (λ (x : ℕ). has x n) (add-zero r)
 
 -- the mask of a test has exactly the nodes that pass it
@@ -482,19 +489,6 @@ has-maskOf (suc w) p n h =
     (λ e. ap (has (maskOf w p + cond (p w) (2 ^ w) 0)) e ∙ has-top w (maskOf w p) (p w) (maskOf-lt w p) ∙ ap p (sym e))
     (λ l. has-under w n (maskOf w p) (p w) (maskOf-lt w p) l ∙ has-maskOf w p n l)
     (eq-or-lt-of-le (le-of-suc-le-suc h))
-
--- one turn of a loop that gathers the nodes that pass: node k passes and is put in, or it does not
-pub maskOf-take : (p : ℕ → Bool) (k : ℕ) {out next : ℕ} → p k ≡ true → out ≡ maskOf k p → next ≡ insert out k → next ≡ maskOf (k + 1) p
-unfolding maskOf
-maskOf-take p k t o x =
-    x ∙ ap (λ (m : ℕ). insert m k) o ∙ sym (top-insert k (maskOf k p) (maskOf-lt k p))
-    ∙ ap (λ (b : Bool). maskOf k p + cond b (2 ^ k) 0) (sym t) ∙ sym (ap (λ (n : ℕ). maskOf n p) (add-one k))
-
--- or node k does not pass and nothing is put in
-pub maskOf-skip : (p : ℕ → Bool) (k : ℕ) {out next : ℕ} → p k ≡ false → out ≡ maskOf k p → next ≡ out → next ≡ maskOf (k + 1) p
-unfolding maskOf
-maskOf-skip p k t o x =
-    x ∙ o ∙ sym (add-zero (maskOf k p)) ∙ ap (λ (b : Bool). maskOf k p + cond b (2 ^ k) 0) (sym t) ∙ sym (ap (λ (n : ℕ). maskOf n p) (add-one k))
 
 -- a mask of w bits whose nodes are those that pass a test is the mask of the test
 pub maskOf-is : (w m : ℕ) (p : ℕ → Bool) → m < 2 ^ w → ((n : ℕ) → n < w → has m n ≡ p n) → m ≡ maskOf w p

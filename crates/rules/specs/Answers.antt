@@ -9,9 +9,13 @@ use Rattle.rules.specs.declared.Answer.{Answer}
 use Rattle.rules.specs.declared.Answer.the-variants.{Granted, Released, Done, Refused}
 use Rattle.rules.specs.declared.Decision.{Decision}
 use Rattle.rules.specs.declared.Decision.the-variants.{Accept, Refuse}
+use Rattle.rules.specs.declared.Ordered.{Ordered}
+use Rattle.rules.specs.declared.Ordered.the-variants.{Listed, Refused as NotListed}
 use Rattle.rules.specs.declared.Numbers.{Numbers}
+use Rattle.rules.specs.declared.OrderNumbers.{OrderNumbers}
 use Rattle.rules.specs.declared.Number.{Number}
 use Rattle.rules.specs.Decisions.{Decision as LawDecision, refuse, accept}
+use Rattle.rules.specs.Near.{Order, ordered}
 use Rattle.rules.specs.Calls.{Answer as LawAnswer, granted, released, done, refused, Tables, Outcome, numbers}
 
 -- The table "Refusal numbers"
@@ -55,6 +59,20 @@ inNumbers (refuse r) = r ∷ 0 ∷ []
 -- the two numbers of a decision
 abbrev pub numberIn : Number → List ℕ
 numberIn n = n .refusal ∷ n .value ∷ []
+
+-- how many nodes near(x) lists and in how many rounds, or "its number alone"
+abbrev pub orderedOf : Ordered → LawDecision Order
+orderedOf (Listed nodes rounds) = accept (ordered nodes rounds)
+orderedOf (NotListed r) = refuse (numberOf r)
+
+-- 0 and both, or the refusal's number, 0 and 0: what near(x) answers, in numbers
+abbrev pub orderNumbers : LawDecision Order → List ℕ
+orderNumbers (accept o) = 0 ∷ o .nodes ∷ o .rounds ∷ []
+orderNumbers (refuse r) = r ∷ 0 ∷ 0 ∷ []
+
+-- the three numbers
+abbrev pub orderNumbersIn : OrderNumbers → List ℕ
+orderNumbersIn n = n .refusal ∷ n .nodes ∷ n .rounds ∷ []
 
 -- What a host is told of a call: the answer in numbers, and the tables afterwards.
 pub record Told : Type 0 where

@@ -4,6 +4,7 @@ pub mod Masks
 pub mod Records
 pub mod SearchOrder
 pub mod Decisions
+pub mod Near
 pub mod Calls
 pub mod Book
 pub mod FreeCounts
@@ -14,3 +15,4 @@ pub mod Answers
 pub mod Examples
 pub mod MoreExamples
 pub mod CountExamples
+pub mod NearExamples

@@ -4,7 +4,7 @@ ghost use mathlib.Core.Path.{_≡_};
 ghost use mathlib.Core.List.{[], _∷_};
 ghost use Prim.Native.Nat.{min};
 ghost use Rattle.rules.specs.Calls.{numbers};
-ghost use Rattle.rules.specs.Answers.{numberOf, answerOf, decisionOf, numbersIn, inNumbers, numberIn};
+ghost use Rattle.rules.specs.Answers.{numberOf, answerOf, decisionOf, numbersIn, inNumbers, numberIn, orderedOf, orderNumbers, orderNumbersIn};
 
 // A node number, a page number and a place in a list are three kinds of number.
 pub struct Node(pub u8);
@@ -69,6 +69,12 @@ pub enum Decision {
     Refuse(Refusal),
 }
 
+// How many nodes near(x) lists, and in how many rounds; or why it does not.
+pub enum Ordered {
+    Listed(u8, u32),
+    Refused(Refusal),
+}
+
 // An answer in numbers: refusal 0 is none.
 #[repr(C)]
 pub struct Numbers {
@@ -82,6 +88,14 @@ pub struct Numbers {
 pub struct Number {
     pub refusal: u8,
     pub value: u64,
+}
+
+// What near(x) answers, in numbers: refusal 0 is none, and the others are 0 on a refusal.
+#[repr(C)]
+pub struct OrderNumbers {
+    pub refusal: u8,
+    pub nodes: u8,
+    pub rounds: u32,
 }
 
 impl Refusal {
@@ -148,6 +162,26 @@ impl Decision {
             Decision::Refuse(why) => Number {
                 refusal: why.number(),
                 value: 0,
+            },
+        }
+    }
+}
+
+impl Ordered {
+    // 0 and both numbers, or the number of the refusal, 0 and 0.
+    pub fn numbers(self) -> OrderNumbers
+        ensures { λ r. ⌜ orderNumbersIn r ≡ orderNumbers (orderedOf self) ⌝ }
+    {
+        match self {
+            Ordered::Listed(nodes, rounds) => OrderNumbers {
+                refusal: 0,
+                nodes: nodes,
+                rounds: rounds,
+            },
+            Ordered::Refused(why) => OrderNumbers {
+                refusal: why.number(),
+                nodes: 0,
+                rounds: 0,
             },
         }
     }

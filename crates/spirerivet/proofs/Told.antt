@@ -14,9 +14,10 @@ use Rattle.rules.specs.declared.Decision.the-variants.{Accept, Refuse}
 use Rattle.rules.specs.declared.Number.{Number}
 use Rattle.rules.specs.Decisions.{Decision as LawDecision, accept, Written, wrote}
 use Rattle.rules.specs.Calls.{Answer, Tables, Outcome, outcome, numbers}
-use Rattle.rules.specs.Answers.{numberOf, decisionOf, inNumbers, numberIn, told, toldOf}
+use Rattle.rules.specs.Near.{Order, Listing, listing}
+use Rattle.rules.specs.Answers.{numberOf, decisionOf, inNumbers, numberIn, orderNumbers, told, toldOf}
 use Rattle.replay.specs.Replay.{Run, run}
-use Rattle.spirerivet.specs.Told.{toldOutput, toldWritten, toldRun, toldReplay}
+use Rattle.spirerivet.specs.Told.{toldOutput, toldWritten, toldListing, toldRun, toldReplay}
 
 -- a call that did what the rules say is told so
 pub told-call : {o : Outcome} {a : Answer} {t : Tables} {ns : List ℕ} → ns ≡ numbers a → outcome a t ≡ o → told ns t ≡ toldOf o
@@ -27,6 +28,12 @@ told-call {o} {a} {t} n e = ap (λ (x : List ℕ). told x t) n ∙ ap toldOf e
 pub told-written : {w : Written} {d : LawDecision ℕ} {out : List ℕ} {ns : List ℕ} → ns ≡ inNumbers d → wrote d out ≡ w → toldOutput ns out ≡ toldWritten w
 unfolding toldWritten
 told-written {w} {d} {out} n e = ap (λ (x : List ℕ). toldOutput x out) n ∙ ap toldWritten e
+
+-- and near(x) as listed
+pub told-listing : {l : Listing} {d : LawDecision Order} {out : List ℕ} {ns : List ℕ} → ns ≡ orderNumbers d → listing d out ≡ l
+    → toldOutput ns out ≡ toldListing l
+unfolding toldListing
+told-listing {l} {d} {out} n e = ap (λ (x : List ℕ). toldOutput x out) n ∙ ap toldListing e
 
 -- and a list of calls
 pub told-run : {r : Run} {d : LawDecision ℕ} {t : Tables} {out : List ℕ} {ns : List ℕ} → ns ≡ inNumbers d → run d t out ≡ r → toldRun ns t out ≡ toldReplay r

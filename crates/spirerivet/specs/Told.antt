@@ -3,7 +3,8 @@ use Prim.Native.Nat.{ℕ}
 use mathlib.Core.List.{List}
 use Rattle.rules.specs.Calls.{Tables}
 use Rattle.rules.specs.Decisions.{Written}
-use Rattle.rules.specs.Answers.{inNumbers}
+use Rattle.rules.specs.Near.{Listing}
+use Rattle.rules.specs.Answers.{inNumbers, orderNumbers}
 use Rattle.replay.specs.Replay.{Run}
 
 -- The answer in numbers, and the output afterwards.
@@ -17,6 +18,10 @@ toldOutput answer output = record { answer = answer; output = output }
 -- what a call wrote, as a host is told of it
 unfoldable pub toldWritten : Written → ToldOutput
 toldWritten w = toldOutput (inNumbers (w .answer)) (w .output)
+
+-- near(x) as listed, as a host is told of it
+unfoldable pub toldListing : Listing → ToldOutput
+toldListing l = toldOutput (orderNumbers (l .answer)) (l .output)
 
 -- The answer in numbers, the tables and the output afterwards.
 pub record ToldRun : Type 0 where

@@ -3,23 +3,26 @@
 ghost use mathlib.Core.Path.{_≡_};
 ghost use Prim.Native.Nat.{ℕ};
 ghost use lib.ListN.{replicate};
-ghost use Rattle.rules.specs.Answers.{numbersIn, numberIn, inNumbers, told, toldOf};
+ghost use Rattle.rules.specs.Answers.{numbersIn, numberIn, inNumbers, orderNumbersIn, told, toldOf};
 ghost use Rattle.rules.specs.Calls.{Tables, tablesOf, withRecords, withPages, onRequest, onRelease, onFresh, onInstall, onRebind, onClear};
 ghost use Rattle.rules.specs.Journal.{writeJournal};
+ghost use Rattle.rules.specs.Near.{onNear};
 ghost use Rattle.rules.specs.Records.{policy};
 ghost use Rattle.rules.specs.Text.{readText, writeText};
 ghost use Rattle.machine.specs.Tables.{machineOf};
 ghost use Rattle.fairness.specs.Demand3.{Demand3};
 ghost use Rattle.replay.specs.Encoding.{callsIn};
 ghost use Rattle.replay.specs.Replay.{onReplay, Belongs};
-ghost use Rattle.spirerivet.specs.Told.{toldOutput, toldWritten, toldRun, toldReplay};
+ghost use Rattle.spirerivet.specs.Told.{toldOutput, toldWritten, toldListing, toldRun, toldReplay};
 use journal;
+use machine::listing;
 use nodelist;
 use placement;
 use records;
 use replay;
 use rules::Number;
 use rules::Numbers;
+use rules::OrderNumbers;
 
 // A page for a job from a CPU.
 #[no_mangle]
@@ -107,6 +110,20 @@ pub extern "C" fn spire_write_nodes(nodes: usize, mask: u64, out: &mut [u8]) -> 
     ensures { λ r. ⌜ toldOutput (numberIn r) (now (out .exit)) ≡ toldWritten (writeText nodes mask (now (out .entry))) ⌝ }
 {
     nodelist::write_nodes(nodes, mask, out).number()
+}
+
+// near(x) over a set of nodes at the start of the output: how many nodes, and in how many rounds.
+#[no_mangle]
+pub extern "C" fn spire_near(
+    nodes: usize,
+    distances: &[u8],
+    set: u64,
+    node: usize,
+    out: &mut [u8],
+) -> OrderNumbers
+    ensures { λ r. ⌜ toldOutput (orderNumbersIn r) (now (out .exit)) ≡ toldListing (onNear nodes (now (distances .entry)) set node (now (out .entry))) ⌝ }
+{
+    listing::list_near(nodes, distances, set, node, out).numbers()
 }
 
 // A list of calls, one after the other; their answers go to the output.

@@ -25,7 +25,7 @@ struct House {
 }
 
 impl House {
-    /// Adds a line: what was asked, the nodes afterwards, the answer.
+    /// Adds a line for a call: what was asked, and its answer.
     fn tell(&mut self, asked: &str, answer: Answer) {
         let words = match answer {
             Answer::Granted { node, page } => format!("node {node}, page {page}"),
@@ -33,6 +33,11 @@ impl House {
             Answer::Done => String::from("done"),
             Answer::Refused(refusal) => refusal.to_string(),
         };
+        self.line(asked, &words);
+    }
+
+    /// Adds a line: what was asked, the nodes afterwards, what was said.
+    fn line(&mut self, asked: &str, words: &str) {
         let nodes = nodes(&self.pages).join("|");
         self.story.push_str(&format!("{asked:<40} |{nodes}|  {words}\n"));
     }
@@ -41,6 +46,16 @@ impl House {
     fn open(&mut self) {
         let answer = spirerivet::fresh(&COUNTS, &mut self.pages, &mut self.free);
         self.tell("the house opens", answer);
+    }
+
+    /// All nodes as they are tried from one of them, and the rounds that it took to list them.
+    fn look(&mut self, node: usize) {
+        let mut out = [0; COUNTS.len()];
+        let words = match spirerivet::near(COUNTS.len(), &DISTANCES, 0b1111, node, &mut out) {
+            Ok(order) => format!("{:?} in {} rounds", &out[..order.nodes], order.rounds),
+            Err(refusal) => refusal.to_string(),
+        };
+        self.line(&format!("the nodes as seen from node {node}"), &words);
     }
 
     /// Lets a tenant use the nodes of a list.
@@ -80,6 +95,8 @@ impl House {
 pub fn story() -> String {
     let mut house = House { pages: [0; 6], jobs: [0; 3 * JOB_WORDS], free: [0; 4], story: String::new() };
     house.open();
+    house.look(2);
+    house.look(4);
     house.rent(0, "0-3");
     house.policy(0, "turns over 3, 3, 1", mode::RING, flag::NONE, 0, &[3, 3, 1]);
     house.need(0, 0);

@@ -11,6 +11,13 @@ pub enum Answer {
     Refused(Refusal),
 }
 
+/// near(x) as `near` has written it: how many nodes, and in how many rounds of its loops.
+#[derive(Clone, Copy, Debug, PartialEq, Eq)]
+pub struct Order {
+    pub nodes: usize,
+    pub rounds: u32,
+}
+
 /// Document 01's refusals, as amended to date, in the order of their numbers.
 #[derive(Clone, Copy, Debug, PartialEq, Eq, PartialOrd, Ord, Hash)]
 #[repr(u8)]

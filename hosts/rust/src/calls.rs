@@ -1,7 +1,7 @@
 //! The public calls, over slices that the host lends.
 
-use crate::answer::{Answer, Refusal};
-use crate::ffi::{self, HostAnswer, HostNumber};
+use crate::answer::{Answer, Order, Refusal};
+use crate::ffi::{self, HostAnswer, HostNumber, HostOrder};
 
 /// Node and page of an answer that names none.
 pub const NO_NODE: u8 = 255;
@@ -37,6 +37,16 @@ fn number(raw: HostNumber) -> Result<u64, Refusal> {
         return Ok(raw.value);
     }
     debug_assert!(raw.value == 0, "a refusal with the number {}", raw.value);
+    Err(refusal_of(raw.refusal))
+}
+
+/// The order, or the refusal alone.
+#[inline]
+fn order(raw: HostOrder) -> Result<Order, Refusal> {
+    if raw.refusal == 0 {
+        return Ok(Order { nodes: usize::from(raw.nodes), rounds: raw.rounds });
+    }
+    debug_assert!(raw.nodes == 0 && raw.rounds == 0, "a refusal with {} nodes, {} rounds", raw.nodes, raw.rounds);
     Err(refusal_of(raw.refusal))
 }
 
@@ -95,6 +105,13 @@ pub fn read_nodes(nodes: usize, allowed: u64, text: &[u8]) -> Result<u64, Refusa
 /// Writes a mask as a node list; gives the length of the text.
 pub fn write_nodes(nodes: usize, mask: u64, out: &mut [u8]) -> Result<usize, Refusal> {
     number(ffi::write_nodes(nodes, mask, out)).map(|length| length as usize)
+}
+
+/// Writes near(x) over a set of nodes, x being `node`, a byte for each node; gives how many, and in how many rounds of its
+/// loops: one for each node of the machine, then one for each node listed other than x. 64 bytes are always enough.
+#[inline]
+pub fn near(nodes: usize, distances: &[u8], set: u64, node: usize, out: &mut [u8]) -> Result<Order, Refusal> {
+    order(ffi::near(nodes, distances, set, node, out))
 }
 
 /// Makes all calls of a list (see `words_of`) and writes a word for each answer; gives how many. With no call made: bad

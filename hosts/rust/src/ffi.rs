@@ -21,6 +21,14 @@ pub struct HostNumber {
     pub value: u64,
 }
 
+/// Refusal 0 is done; then how many nodes, and in how many rounds.
+#[repr(C)]
+pub struct HostOrder {
+    pub refusal: u8,
+    pub nodes: u8,
+    pub rounds: u32,
+}
+
 #[rustfmt::skip]
 extern "C" {
     fn spire_request(
@@ -44,6 +52,10 @@ extern "C" {
     fn spire_clear(nodes: usize, jobs: *mut u64, jobs_len: usize, job: usize) -> HostAnswer;
     fn spire_read_nodes(nodes: usize, allowed: u64, text: *const u8, text_len: usize) -> HostNumber;
     fn spire_write_nodes(nodes: usize, mask: u64, out: *mut u8, out_len: usize) -> HostNumber;
+    fn spire_near(
+        nodes: usize, distances: *const u8, distances_len: usize, set: u64, node: usize,
+        out: *mut u8, out_len: usize,
+    ) -> HostOrder;
     fn spire_replay(
         counts: *const u32, counts_len: usize, cpus: *const u8, cpus_len: usize,
         distances: *const u8, distances_len: usize, pages: *mut u8, pages_len: usize,
@@ -118,6 +130,11 @@ pub fn read_nodes(nodes: usize, allowed: u64, text: &[u8]) -> HostNumber {
 
 pub fn write_nodes(nodes: usize, mask: u64, out: &mut [u8]) -> HostNumber {
     unsafe { spire_write_nodes(nodes, mask, out.as_mut_ptr(), out.len()) }
+}
+
+#[inline]
+pub fn near(nodes: usize, distances: &[u8], set: u64, node: usize, out: &mut [u8]) -> HostOrder {
+    unsafe { spire_near(nodes, distances.as_ptr(), distances.len(), set, node, out.as_mut_ptr(), out.len()) }
 }
 
 #[rustfmt::skip]

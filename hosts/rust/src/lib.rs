@@ -12,8 +12,8 @@ mod calls;
 mod ffi;
 mod list;
 
-pub use answer::{Answer, Refusal};
-pub use calls::{clear, fresh, install, journal, read_nodes, rebind, release, replay, request, write_nodes};
+pub use answer::{Answer, Order, Refusal};
+pub use calls::{clear, fresh, install, journal, near, read_nodes, rebind, release, replay, request, write_nodes};
 pub use list::{answer_of, words_of, Call, CALL_WORDS, MOST_CALL_PLACES};
 
 /// The words of a job in the job table.

@@ -7,6 +7,7 @@ mod counts;
 mod journal;
 mod lent;
 mod list;
+mod near;
 mod text;
 
 use std::ops::Range;
@@ -16,6 +17,7 @@ pub use counts::Shown;
 pub use journal::journal_by_both;
 pub use lent::{Lent, LentTables};
 pub use list::{answer_word, install_in, list_refusal, packed, words, RUBBISH};
+pub use near::near_by_both;
 pub use text::{read_by_both, write_by_both};
 
 /// The numbers from 0, for no refusal, to the highest refusal.

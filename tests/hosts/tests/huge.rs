@@ -4,7 +4,7 @@ use std::time::{Duration, Instant};
 
 use reference::calls::{request, Answer, Tables};
 use reference::examples::machine_a;
-use spirerivet::Refusal;
+use spirerivet::{Order, Refusal};
 
 /// Zero bytes that nobody has touched: the system has not even made room for them.
 const HUGE: usize = 1 << 28;
@@ -106,6 +106,22 @@ fn a_fresh_table_is_refused_and_made_at_once() {
     });
     assert_eq!(pages[..9], [0, 0, 0, 0, 0, 0, 9, 9, 0]);
     assert_eq!(free, [2, 2, 0, 2]);
+}
+
+/// Far too many distances, for four nodes and as the square of far too many; and far more output than an order fills.
+#[test]
+fn an_order_is_refused_and_listed_at_once() {
+    let (distances, mut out) = (vec![0; HUGE], vec![0; HUGE]);
+    at_once("near(x) of far too many distances", || {
+        for nodes in [4, 1 << 14] {
+            assert_eq!(spirerivet::near(nodes, &distances, 0b1111, 2, &mut out), Err(Refusal::BadTables));
+        }
+    });
+    at_once("near(x) into far too many bytes", || {
+        let found = spirerivet::near(4, &machine_a().distances, 0b1111, 2, &mut out);
+        assert_eq!(found, Ok(Order { nodes: 4, rounds: 7 }));
+    });
+    assert_eq!(out[..5], [2, 0, 3, 1, 0]);
 }
 
 #[test]

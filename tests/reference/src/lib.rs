@@ -1,4 +1,4 @@
-//! The second, independent implementation of document 01, as document 02 amends it: M-100.
+//! The second, independent implementation of document 01, as document 02 amends it: M-100 to M-102.
 //!
 //! Written from the papers alone, to be compared with the real one byte for
 //! byte. Plain and slow on purpose: every function is named after the papers'
@@ -13,6 +13,8 @@ pub mod generate;
 pub mod journal;
 pub mod machine;
 pub mod masks;
+pub mod near;
+pub mod near_cases;
 pub mod order;
 pub mod program;
 pub mod record;
