@@ -1,9 +1,10 @@
-//! The rules of document 01, with free counts, written for speed: tables tested once, no order built.
+//! The rules of document 01, with free counts and maps, written for speed: tables tested once, no order built.
 //! The calls named `.._at` are made on tables that are known to be in order.
 
 use crate::free::{Free, Lent};
 use crate::hints::{First, Hints};
-use crate::map::{find_starts, jobs_ok, node_of, Map, Starts};
+use crate::machine::{find_starts, jobs_ok, node_of, Machine, Starts};
+use crate::maps::{keep, maps_ok, set, JobMap, Maps};
 use crate::masks::{below, folded, remapped};
 use crate::record::Record;
 
@@ -33,45 +34,51 @@ pub const fn refused(refusal: u8) -> Out {
 
 /// Request.
 pub fn request_at<const KEPT: bool>(
-    map: &Map,
+    machine: &Machine,
     pages: &mut [u8],
     jobs: &mut Jobs,
     free: &mut Free<KEPT>,
+    maps: &Maps,
     hints: &mut impl Hints,
     job: usize,
     cpu: usize,
 ) -> Out {
-    let Some(words) = jobs.get_mut(job) else { return refused(2) };
-    let Some(home) = map.cpus.get(cpu) else { return refused(3) };
-    let Some(record) = Record::of(map.nodes, words) else { return refused(4) };
-    let home = usize::from(*home);
-    let (allowed, effective) = (record.allowed(), record.effective());
-    let mut cursor = record.cursor();
-    let chosen = match record.mode() {
-        _ if record.flag() == 1 && effective == 0 => free.near(map, allowed, home),
-        1 if effective != 0 => free.near(map, allowed, effective.trailing_zeros() as usize),
-        2 => free.near(map, effective, home),
-        3 => {
-            let target = record.target();
-            cursor = target as u64 + 1;
-            free.near(map, allowed, target)
-        }
-        0 | 1 => free.near(map, allowed, home),
-        mode => {
-            let first = if mode == 6 { free.place(record, 0).map(|node| (0, node)) } else { None };
-            first.or_else(|| free.round(record, cursor)).map(|(place, node)| {
-                cursor = if mode == 4 { 0 } else { place + 1 };
-                node
-            })
-        }
-    };
-    let Some(node) = chosen else { return refused(8) };
-    let Some(page) = map.page(pages, node, hints.hint(map.starts, node)) else { return refused(14) };
+    let (Some(words), Some(map)) = (jobs.get_mut(job), maps.get(job)) else { return refused(2) };
+    let Some(map) = JobMap::of(machine.nodes, map) else { return refused(15) };
+    let Some(home) = machine.cpus.get(cpu) else { return refused(3) };
+    let Some(record) = Record::of(machine.nodes, words) else { return refused(4) };
+    let Some((node, cursor)) = choose(machine, free, record, map.nodes, usize::from(*home)) else { return refused(8) };
+    let Some(page) = machine.page(pages, node, hints.hint(machine.starts, node)) else { return refused(14) };
     words[0] = words[0] & !(255 << 24) | cursor << 24;
     pages[page] = job as u8 + 1;
     free.take(node);
     hints.take(node, page);
-    Out { refusal: 0, node: node as u8, page: page as u32 }
+    Out { refusal: 0, node: map.number(node), page: page as u32 }
+}
+
+/// The first node in the search order that is counted above 0, and the cursor after a grant from it.
+#[inline(always)]
+fn choose<const KEPT: bool>(
+    machine: &Machine,
+    free: &Free<KEPT>,
+    record: Record,
+    mapped: u64,
+    home: usize,
+) -> Option<(usize, u64)> {
+    let (limit, effective, cursor) = (record.allowed() & mapped, record.effective(), record.cursor());
+    let near = |among, x, cursor| free.near(machine, among, x).map(|node| (node, cursor));
+    match record.mode() {
+        _ if record.flag() == 1 && effective == 0 => near(limit, home, cursor),
+        1 if effective != 0 => near(limit, effective.trailing_zeros() as usize, cursor),
+        2 => near(effective & mapped, home, cursor),
+        3 => near(limit, record.target(), record.target() as u64 + 1),
+        0 | 1 => near(limit, home, cursor),
+        mode => {
+            let first = if mode == 6 { free.place(record, limit, 0).map(|node| (0, node)) } else { None };
+            let (place, node) = first.or_else(|| free.round(record, limit, cursor))?;
+            Some((node, if mode == 4 { 0 } else { place + 1 }))
+        }
+    }
 }
 
 /// Release.
@@ -79,15 +86,14 @@ pub fn release_at<const KEPT: bool>(
     starts: &Starts,
     nodes: usize,
     pages: &mut [u8],
-    jobs: usize,
     free: &mut Free<KEPT>,
+    maps: &Maps,
     hints: &mut impl Hints,
     job: usize,
     page: usize,
 ) -> Out {
-    if job >= jobs {
-        return refused(2);
-    }
+    let Some(map) = maps.get(job) else { return refused(2) };
+    let Some(map) = JobMap::of(nodes, map) else { return refused(15) };
     if page >= starts[nodes] as usize || pages[page] != job as u8 + 1 {
         return refused(10);
     }
@@ -97,7 +103,7 @@ pub fn release_at<const KEPT: bool>(
     }
     pages[page] = 0;
     hints.give(node, page);
-    Out { refusal: 0, node: node as u8, page: page as u32 }
+    Out { refusal: 0, node: map.number(node), page: page as u32 }
 }
 
 /// Fresh.
@@ -118,12 +124,14 @@ pub fn fresh_at<const KEPT: bool>(
 pub fn install_at(
     nodes: usize,
     words: &mut [u64; 6],
+    map: &[u8; 64],
     mode: u64,
     flag: u64,
     mask: u64,
     length: u64,
     places: u128,
 ) -> Out {
+    let Some(map) = JobMap::of(nodes, map) else { return refused(15) };
     let Some(old) = Record::of(nodes, words) else { return refused(4) };
     let masked = (1..=3).contains(&mode);
     if mode > 6 || flag > 2 || (flag != 0 && (!masked || (mode == 1 && mask == 0))) {
@@ -133,15 +141,17 @@ pub fn install_at(
     if allowed == 0 {
         return refused(7);
     }
-    let misses = flag != 2 && (mask & !below(nodes) != 0 || (mask != 0 && mask & allowed == 0));
+    let user = if flag == 2 { Some(mask) } else { map.mask(mask) };
+    let (Some(user), Some(places)) = (user, map.places(length.min(16), places)) else { return refused(6) };
+    let misses = flag != 2 && user != 0 && user & allowed == 0;
     let empty = mode > 1 && masked && mask == 0;
     let list = if mode > 3 { length == 0 || length > 16 } else { length != 0 };
     if misses || empty || (!masked && mask != 0) || list {
         return refused(6);
     }
-    let effective = if flag == 2 { folded(mask, allowed) } else { mask & allowed };
+    let effective = if flag == 2 { folded(user, allowed) } else { user & allowed };
     let head = mode | flag << 8 | length << 16;
-    *words = [head, mask, allowed, effective, places as u64, (places >> 64) as u64];
+    *words = [head, user, allowed, effective, places as u64, (places >> 64) as u64];
     DONE
 }
 
@@ -182,23 +192,36 @@ pub fn request(
     pages: &mut [u8],
     jobs: &mut [u64],
     free: &mut [u32],
+    maps: &[u8],
     job: usize,
     cpu: usize,
 ) -> Out {
     let mut starts = [0; 65];
-    let map = Map::new(&mut starts, counts, cpus, distances, pages.len(), jobs.len());
-    match (map, Lent::new(free, counts.len())) {
-        (Some(map), Some(mut free)) => request_at(&map, pages, jobs.as_chunks_mut().0, &mut free, &mut First, job, cpu),
+    let machine = Machine::new(&mut starts, counts, cpus, distances, pages.len(), jobs.len());
+    match (machine, Lent::new(free, counts.len())) {
+        (Some(machine), Some(mut free)) if maps_ok(jobs.len(), maps.len()) => {
+            let (jobs, maps) = (jobs.as_chunks_mut().0, maps.as_chunks().0);
+            request_at(&machine, pages, jobs, &mut free, maps, &mut First, job, cpu)
+        }
         _ => refused(1),
     }
 }
 
 /// Release.
-pub fn release(counts: &[u32], pages: &mut [u8], jobs: &[u64], free: &mut [u32], job: usize, page: usize) -> Out {
+pub fn release(
+    counts: &[u32],
+    pages: &mut [u8],
+    jobs: &[u64],
+    free: &mut [u32],
+    maps: &[u8],
+    job: usize,
+    page: usize,
+) -> Out {
     let mut starts = [0; 65];
+    let jobs_ok = jobs_ok(jobs.len()) && maps_ok(jobs.len(), maps.len());
     match Lent::new(free, counts.len()) {
-        Some(mut free) if find_starts(&mut starts, counts, pages.len()) && jobs_ok(jobs.len()) => {
-            release_at(&starts, counts.len(), pages, jobs.len() / 6, &mut free, &mut First, job, page)
+        Some(mut free) if find_starts(&mut starts, counts, pages.len()) && jobs_ok => {
+            release_at(&starts, counts.len(), pages, &mut free, maps.as_chunks().0, &mut First, job, page)
         }
         _ => refused(1),
     }
@@ -224,14 +247,56 @@ fn words_of(nodes: usize, jobs: &mut [u64], job: usize) -> Result<&mut [u64; 6],
 }
 
 /// Install.
-pub fn install(nodes: usize, jobs: &mut [u64], job: usize, mode: u64, flag: u64, mask: u64, places: &[u8]) -> Out {
+pub fn install(
+    nodes: usize,
+    jobs: &mut [u64],
+    maps: &[u8],
+    job: usize,
+    mode: u64,
+    flag: u64,
+    mask: u64,
+    places: &[u8],
+) -> Out {
+    if !maps_ok(jobs.len(), maps.len()) {
+        return refused(1);
+    }
     let mut bytes = [0; 16];
     for (byte, place) in bytes.iter_mut().zip(places) {
         *byte = *place;
     }
     let (length, places) = (places.len() as u64, u128::from_le_bytes(bytes));
-    words_of(nodes, jobs, job)
-        .map_or_else(|out| out, |words| install_at(nodes, words, mode, flag, mask, length, places))
+    words_of(nodes, jobs, job).map_or_else(
+        |out| out,
+        |words| install_at(nodes, words, &maps.as_chunks().0[job], mode, flag, mask, length, places),
+    )
+}
+
+/// The map of a job for a call that writes it, or refusal 1 or 2.
+fn map_of<'a>(nodes: usize, jobs: &[u64], maps: &'a mut [u8], job: usize) -> Result<&'a mut [u8; 64], Out> {
+    if nodes == 0 || nodes > 64 || !jobs_ok(jobs.len()) || !maps_ok(jobs.len(), maps.len()) {
+        return Err(refused(1));
+    }
+    maps.as_chunks_mut().0.get_mut(job).ok_or(refused(2))
+}
+
+/// Keep nodes, on a map that is known to be there.
+pub fn keep_at(nodes: usize, map: &mut [u8; 64], kept: &[u8]) -> Out {
+    refused(if keep(nodes, map, kept) { 0 } else { 15 })
+}
+
+/// Set map, likewise.
+pub fn set_at(nodes: usize, map: &mut [u8; 64], list: &[u8]) -> Out {
+    refused(if set(nodes, map, list) { 0 } else { 15 })
+}
+
+/// Keep nodes.
+pub fn keep_nodes(nodes: usize, jobs: &[u64], maps: &mut [u8], job: usize, kept: &[u8]) -> Out {
+    map_of(nodes, jobs, maps, job).map_or_else(|out| out, |map| keep_at(nodes, map, kept))
+}
+
+/// Set map.
+pub fn set_map(nodes: usize, jobs: &[u64], maps: &mut [u8], job: usize, list: &[u8]) -> Out {
+    map_of(nodes, jobs, maps, job).map_or_else(|out| out, |map| set_at(nodes, map, list))
 }
 
 /// Rebind.

@@ -1,6 +1,6 @@
 //! The free counts, and the choice of a node by them.
 
-use crate::map::{Map, Starts};
+use crate::machine::{Machine, Starts};
 use crate::record::Record;
 
 /// One count for each node, as lent. Where KEPT, the mask is that of the nodes counted above 0; else it says nothing.
@@ -43,27 +43,27 @@ impl<'a, const KEPT: bool> Free<'a, KEPT> {
     }
 
     /// The first node of near(x) among these that is counted above 0.
-    pub fn near(&self, map: &Map, among: u64, x: usize) -> Option<usize> {
+    pub fn near(&self, machine: &Machine, among: u64, x: usize) -> Option<usize> {
         if among >> x & 1 == 1 && self.has(x) {
             return Some(x);
         }
-        map.nearest(among & if KEPT { self.mask } else { counted(self.counts) }, x)
+        machine.nearest(among & if KEPT { self.mask } else { counted(self.counts) }, x)
     }
 
-    /// The node that a place names, if it is allowed and counted above 0.
-    pub fn place(&self, record: Record, place: u64) -> Option<usize> {
+    /// The node that a place names, if it is among these and counted above 0.
+    pub fn place(&self, record: Record, among: u64, place: u64) -> Option<usize> {
         let node = usize::from(record.place(place as usize));
-        (self.has(node) && record.allowed() >> node & 1 == 1).then_some(node)
+        (self.has(node) && among >> node & 1 == 1).then_some(node)
     }
 
     /// The first place with such a node, from one on and once round; gives the node too.
-    pub fn round(&self, record: Record, from: u64) -> Option<(u64, usize)> {
+    pub fn round(&self, record: Record, among: u64, from: u64) -> Option<(u64, usize)> {
         let mut place = from;
         for _ in 0..record.length() {
             if place >= record.length() {
                 place = 0;
             }
-            if let Some(node) = self.place(record, place) {
+            if let Some(node) = self.place(record, among, place) {
                 return Some((place, node));
             }
             place += 1;

@@ -1,6 +1,6 @@
 //! Where the search for a free page of a node begins.
 
-use crate::map::Starts;
+use crate::machine::Starts;
 
 /// For each node a page before which all its pages are held.
 pub trait Hints {

@@ -5,7 +5,8 @@ use std::io::{Read, Result, Write};
 use crate::fast::{clear_at, install_at, rebind_at, refused, release_at, request_at, Jobs, Out};
 use crate::free::Kept;
 use crate::hints::{Hints, InList};
-use crate::map::Map;
+use crate::machine::Machine;
+use crate::maps::Maps;
 
 /// The longest machine record: 16 nodes and 64 CPUs.
 const OPENING: usize = 358;
@@ -69,14 +70,17 @@ fn run_records(nodes: usize, cpus: usize, tables: &[u8], input: &mut impl Read, 
     let (cpus, distances) = tables.split_at(cpus);
     let counts: Vec<u32> = counts.as_chunks().0.iter().map(|bytes| u16::from_le_bytes(*bytes).into()).collect();
     let (mut starts, mut pages, mut jobs, mut free) = ([0; 65], [0; 16_384], [[0; 6]; 64], counts.clone());
-    let map = Map::new(&mut starts, &counts, cpus, distances, pages.len(), 384);
-    let (Some(map), Some(mut free)) = (map, Kept::new(&mut free, nodes)) else {
+    let machine = Machine::new(&mut starts, &counts, cpus, distances, pages.len(), 384);
+    let (Some(machine), Some(mut free)) = (machine, Kept::new(&mut free, nodes)) else {
         return output.write_all(&answer(BROKEN, refused(1)));
     };
-    let (mut hints, mut part, mut answers) = (InList::of(map.starts), vec![0; PART], vec![0; ANSWERS]);
+    let maps = [std::array::from_fn(|node| if node < nodes { node as u8 } else { 255 }); 64];
+    let (mut hints, mut part, mut answers) = (InList::of(machine.starts), vec![0; PART], vec![0; ANSWERS]);
     loop {
         let size = read_full(input, &mut part)?;
-        let (written, more) = run_part(&map, &mut pages, &mut jobs, &mut free, &mut hints, &part[..size], &mut answers);
+        let part = &part[..size];
+        let (written, more) =
+            run_part(&machine, &mut pages, &mut jobs, &mut free, &maps, &mut hints, part, &mut answers);
         output.write_all(&answers[..written])?;
         if !more || size < PART {
             return Ok(());
@@ -86,10 +90,11 @@ fn run_records(nodes: usize, cpus: usize, tables: &[u8], input: &mut impl Read, 
 
 /// Answers the records of a part; gives how many bytes were written and whether the run goes on.
 fn run_part(
-    map: &Map,
+    machine: &Machine,
     pages: &mut [u8],
     jobs: &mut Jobs,
     free: &mut Kept,
+    maps: &Maps,
     hints: &mut InList,
     part: &[u8],
     answers: &mut [u8],
@@ -97,7 +102,7 @@ fn run_part(
     let mut written = 0;
     for (record, bytes) in part.chunks(32).zip(answers.as_chunks_mut().0) {
         written += 12;
-        match call(map, pages, jobs, free, hints, record) {
+        match call(machine, pages, jobs, free, maps, hints, record) {
             Some(out) => *bytes = answer(record[2], out),
             None => {
                 *bytes = answer(BROKEN, refused(13));
@@ -110,16 +115,17 @@ fn run_part(
 
 /// Makes the call of a record, read as four words; none if it is short or damaged.
 fn call(
-    map: &Map,
+    machine: &Machine,
     pages: &mut [u8],
     jobs: &mut Jobs,
     free: &mut Kept,
+    maps: &Maps,
     hints: &mut InList,
     record: &[u8],
 ) -> Option<Out> {
     let &[head, mask, low, high] = record.as_chunks().0 else { return None };
     let [head, mask, low, high] = [head, mask, low, high].map(u64::from_le_bytes);
-    let (kind, job, nodes) = (head >> 16 & 255, (head >> 24 & 255) as usize, map.nodes);
+    let (kind, job, nodes) = (head >> 16 & 255, (head >> 24 & 255) as usize, machine.nodes);
     let unused = match kind {
         1 => head >> 40 | mask | low | high,
         2 => head >> 32 | mask >> 32 | low | high,
@@ -132,16 +138,16 @@ fn call(
         return None;
     }
     match kind {
-        1 => return Some(request_at(map, pages, jobs, free, hints, job, (head >> 32) as usize)),
-        2 => return Some(release_at(map.starts, nodes, pages, jobs.len(), free, hints, job, mask as usize)),
+        1 => return Some(request_at(machine, pages, jobs, free, maps, hints, job, (head >> 32) as usize)),
+        2 => return Some(release_at(machine.starts, nodes, pages, free, maps, hints, job, mask as usize)),
         _ => {}
     }
-    let Some(words) = jobs.get_mut(job) else { return Some(refused(2)) };
+    let (Some(words), Some(map)) = (jobs.get_mut(job), maps.get(job)) else { return Some(refused(2)) };
     Some(match kind {
         3 => rebind_at(nodes, words, mask),
         4 => {
             let places = u128::from(low) | u128::from(high) << 64;
-            install_at(nodes, words, head >> 40 & 255, head >> 48 & 255, mask, head >> 56, places)
+            install_at(nodes, words, map, head >> 40 & 255, head >> 48 & 255, mask, head >> 56, places)
         }
         _ => clear_at(words),
     })

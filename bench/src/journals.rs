@@ -3,6 +3,7 @@
 use reference::calls::{Call, Tables};
 use reference::generate::Dice;
 use reference::journal::{call_bytes, machine_bytes};
+use reference::maps::identity_maps;
 use reference::masks::all_below;
 
 use crate::ways::fast_call;
@@ -40,6 +41,7 @@ fn machine(nodes: usize) -> Tables {
         pages: vec![0; nodes * PAGES as usize],
         jobs: vec![0; JOBS * 6],
         free: vec![PAGES; nodes],
+        maps: identity_maps(nodes, JOBS),
     }
 }
 

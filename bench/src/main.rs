@@ -95,16 +95,16 @@ fn each(mut turn: impl FnMut()) -> f64 {
 fn search_row(place: usize, rounds: usize) -> String {
     let mut pages = vec![77; 65_536];
     let mut jobs = vec![0, 0, 1, 0, 0, 0];
-    let mut free = [0];
+    let (mut free, maps) = ([0], spirerivet::identity_maps(1, 1));
     let mut best = [f64::MAX; 6];
     for _ in 0..rounds {
         let library = each(|| {
             (pages[place], free[0]) = (0, 1);
-            black_box(spirerivet::request(&[65_536], &[0], &[10], &mut pages, &mut jobs, &mut free, 0, 0));
+            black_box(spirerivet::request(&[65_536], &[0], &[10], &mut pages, &mut jobs, &mut free, &maps, 0, 0));
         });
         let rust = each(|| {
             (pages[place], free[0]) = (0, 1);
-            black_box(fast::request(&[65_536], &[0], &[10], &mut pages, &mut jobs, &mut free, 0, 0));
+            black_box(fast::request(&[65_536], &[0], &[10], &mut pages, &mut jobs, &mut free, &maps, 0, 0));
         });
         pages[place] = 0;
         let blocks = each(|| {

@@ -3,7 +3,7 @@
 use std::time::{Duration, Instant};
 
 use reference::calls::{Call, Tables};
-use spirerivet::Answer;
+use spirerivet::{Answer, AppNode, SysNode};
 
 use crate::fast::{self, Out};
 use crate::list;
@@ -27,17 +27,21 @@ pub fn words_of(call: &Call) -> [u64; 16] {
         Call::Release { job, page } => spirerivet::Call::Release { job: wide(job), page: wide(page) },
         Call::Rebind { job, allowed } => spirerivet::Call::Rebind { job: wide(job), allowed: *allowed },
         Call::Install { job, mode, flag, mask, places } => {
-            spirerivet::Call::Install { job: wide(job), mode: *mode, flag: *flag, mask: *mask, places }
+            let (job, places) = (wide(job), AppNode::list(places));
+            spirerivet::Call::Install { job, mode: *mode, flag: *flag, mask: *mask, places }
         }
         Call::Clear { job } => spirerivet::Call::Clear { job: wide(job) },
         Call::Fresh => spirerivet::Call::Fresh,
+        Call::KeepNodes { job, kept } => spirerivet::Call::KeepNodes { job: wide(job), kept: AppNode::list(kept) },
+        Call::SetMap { job, list } => spirerivet::Call::SetMap { job: wide(job), list: SysNode::list(list) },
     })
 }
 
 /// The library's answer as a word.
 fn word_of(answer: Answer) -> u64 {
     let out = match answer {
-        Answer::Granted { node, page } | Answer::Released { node, page } => Out { refusal: 0, node, page },
+        Answer::Granted { node, page } => Out { refusal: 0, node: node.0, page },
+        Answer::Released { node, page } => Out { refusal: 0, node: node.map_or(255, |node| node.0), page },
         Answer::Done => Out { refusal: 0, node: 255, page: u32::MAX },
         Answer::Refused(refusal) => Out { refusal: refusal.number(), node: 255, page: u32::MAX },
     };
@@ -46,31 +50,35 @@ fn word_of(answer: Answer) -> u64 {
 
 /// One call by the library.
 fn library_call(nodes: usize, tables: &mut Tables, call: &Call) -> u64 {
-    let Tables { counts, cpus, distances, pages, jobs, free } = tables;
+    let Tables { counts, cpus, distances, pages, jobs, free, maps } = tables;
     word_of(match call {
-        Call::Request { job, cpu } => spirerivet::request(counts, cpus, distances, pages, jobs, free, *job, *cpu),
-        Call::Release { job, page } => spirerivet::release(counts, pages, jobs, free, *job, *page),
+        Call::Request { job, cpu } => spirerivet::request(counts, cpus, distances, pages, jobs, free, maps, *job, *cpu),
+        Call::Release { job, page } => spirerivet::release(counts, pages, jobs, free, maps, *job, *page),
         Call::Install { job, mode, flag, mask, places } => {
-            spirerivet::install(nodes, jobs, *job, *mode, *flag, *mask, places)
+            spirerivet::install(nodes, jobs, maps, *job, *mode, *flag, *mask, AppNode::list(places))
         }
         Call::Rebind { job, allowed } => spirerivet::rebind(nodes, jobs, *job, *allowed),
         Call::Clear { job } => spirerivet::clear(nodes, jobs, *job),
         Call::Fresh => spirerivet::fresh(counts, pages, free),
+        Call::KeepNodes { job, kept } => spirerivet::keep_nodes(nodes, jobs, maps, *job, AppNode::list(kept)),
+        Call::SetMap { job, list } => spirerivet::set_map(nodes, jobs, maps, *job, SysNode::list(list)),
     })
 }
 
 /// One call by the fast implementation.
 pub fn fast_call(nodes: usize, tables: &mut Tables, call: &Call) -> u64 {
-    let Tables { counts, cpus, distances, pages, jobs, free } = tables;
+    let Tables { counts, cpus, distances, pages, jobs, free, maps } = tables;
     let out = match call {
-        Call::Request { job, cpu } => fast::request(counts, cpus, distances, pages, jobs, free, *job, *cpu),
-        Call::Release { job, page } => fast::release(counts, pages, jobs, free, *job, *page),
+        Call::Request { job, cpu } => fast::request(counts, cpus, distances, pages, jobs, free, maps, *job, *cpu),
+        Call::Release { job, page } => fast::release(counts, pages, jobs, free, maps, *job, *page),
         Call::Install { job, mode, flag, mask, places } => {
-            fast::install(nodes, jobs, *job, *mode, *flag, *mask, places)
+            fast::install(nodes, jobs, maps, *job, *mode, *flag, *mask, places)
         }
         Call::Rebind { job, allowed } => fast::rebind(nodes, jobs, *job, *allowed),
         Call::Clear { job } => fast::clear(nodes, jobs, *job),
         Call::Fresh => fast::fresh(counts, pages, free),
+        Call::KeepNodes { job, kept } => fast::keep_nodes(nodes, jobs, maps, *job, kept),
+        Call::SetMap { job, list } => fast::set_map(nodes, jobs, maps, *job, list),
     };
     out.word()
 }
@@ -91,12 +99,12 @@ pub fn run(way: Way, tables: &mut Tables, calls: &[Call], words: &[u64], answers
             }
         }
         Way::LibraryReplay => {
-            let Tables { counts, cpus, distances, pages, jobs, free } = tables;
-            spirerivet::replay(counts, cpus, distances, pages, jobs, free, words, answers).expect("a good list");
+            let Tables { counts, cpus, distances, pages, jobs, free, maps } = tables;
+            spirerivet::replay(counts, cpus, distances, pages, jobs, free, maps, words, answers).expect("a good list");
         }
         Way::FastReplay => {
-            let Tables { counts, cpus, distances, pages, jobs, free } = tables;
-            list::replay(counts, cpus, distances, pages, jobs, free, words, answers).expect("a good list");
+            let Tables { counts, cpus, distances, pages, jobs, free, maps } = tables;
+            list::replay(counts, cpus, distances, pages, jobs, free, maps, words, answers).expect("a good list");
         }
     }
     begin.elapsed()

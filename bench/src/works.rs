@@ -2,6 +2,7 @@
 
 use reference::calls::{Call, Tables};
 use reference::generate::Dice;
+use reference::maps::identity_maps;
 use reference::masks::all_below;
 
 use crate::ways::{fast_call, words_of};
@@ -32,6 +33,7 @@ fn machine(nodes: usize) -> Tables {
         pages: vec![0; nodes * count as usize],
         jobs: vec![0; 64 * 6],
         free: vec![count; nodes],
+        maps: identity_maps(nodes, 64),
     };
     for job in 0..64 {
         assert_eq!(fast_call(nodes, &mut tables, &Call::Rebind { job, allowed: all_below(nodes) }) as u8, 0);

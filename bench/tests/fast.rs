@@ -1,4 +1,5 @@
-//! The careful Rust implementation against the second implementation, with free counts that match and with wrong ones.
+//! The careful Rust implementation against the second implementation, with free counts that match and with wrong ones, and
+//! with maps good and bad.
 
 use std::collections::BTreeMap;
 
@@ -7,18 +8,21 @@ use bench::ways::{fast_call, words_of};
 use bench::works::{works, Work};
 use reference::calls::{apply, apply_with, Answer, Call, Tables};
 use reference::generate::{case, journal_parts, list, put_counts, tables, Case, Dice, SORTS_OF_COUNTS};
+use reference::map_cases::{put_map, wrong_length, SORTS};
+use reference::maps::identity_maps;
 
 /// The word of the second implementation's answer.
 fn word(answer: Answer) -> u64 {
     let (refusal, node, page) = match answer {
-        Answer::Granted { node, page } | Answer::Released { node, page } => (0, node, page),
+        Answer::Granted { node, page } => (0, node.0, page),
+        Answer::Released { node, page } => (0, node.map_or(255, |node| node.0), page),
         Answer::Done => (0, 255, u32::MAX),
         Answer::Refused(number) => (number, 255, u32::MAX),
     };
     fast::Out { refusal, node, page }.word()
 }
 
-/// How often each kind of call that is lent counts was refused by each number, or not (0).
+/// How often each kind of call that is lent counts or maps was refused by each number, or not (0).
 #[derive(Default)]
 struct Seen(BTreeMap<(&'static str, u8), usize>);
 
@@ -28,6 +32,9 @@ impl Seen {
             Call::Request { .. } => "request",
             Call::Release { .. } => "release",
             Call::Fresh => "fresh",
+            Call::Install { .. } => "install",
+            Call::KeepNodes { .. } => "keep",
+            Call::SetMap { .. } => "set",
             _ => return,
         };
         *self.0.entry((kind, word as u8)).or_default() += 1;
@@ -39,6 +46,16 @@ impl Seen {
             let seen = self.0.get(&(kind, *refusal)).copied().unwrap_or(0);
             assert!(seen >= 20, "{kind} {refusal}: {:?}", self.0);
         }
+    }
+
+    /// Each refusal of each call.
+    fn all_of_every_call(&self) {
+        self.all("request", &[0, 1, 2, 15, 3, 4, 8, 14]);
+        self.all("release", &[0, 1, 2, 15, 10, 14]);
+        self.all("install", &[0, 1, 2, 15, 4, 5, 7, 6]);
+        self.all("fresh", &[0, 1]);
+        self.all("keep", &[0, 1, 2, 15]);
+        self.all("set", &[0, 1, 2, 15]);
     }
 }
 
@@ -69,13 +86,11 @@ fn same(told: &str, nodes: usize, start: Tables, calls: &[Call], seen: &mut Seen
 #[test]
 fn single_calls_agree() {
     let mut seen = Seen::default();
-    for seed in 0..10_000 {
+    for seed in 0..14_000 {
         let Case { nodes, tables, call } = case(seed);
         same(&format!("case {seed}"), nodes, tables, &[call], &mut seen);
     }
-    seen.all("request", &[0, 1, 2, 3, 4, 8, 14]);
-    seen.all("release", &[0, 1, 2, 10, 14]);
-    seen.all("fresh", &[0, 1]);
+    seen.all_of_every_call();
 }
 
 #[test]
@@ -90,15 +105,13 @@ fn runs_of_calls_agree() {
             }
         }
     }
-    seen.all("request", &[0, 1, 2, 3, 4, 8, 14]);
-    seen.all("release", &[0, 1, 2, 10, 14]);
-    seen.all("fresh", &[0, 1]);
+    seen.all_of_every_call();
 }
 
 /// Replays calls by the careful Rust.
 fn replay(tables: &mut Tables, words: &[u64], answers: &mut [u64]) -> Result<usize, u8> {
-    let Tables { counts, cpus, distances, pages, jobs, free } = tables;
-    bench::list::replay(counts, cpus, distances, pages, jobs, free, words, answers)
+    let Tables { counts, cpus, distances, pages, jobs, free, maps } = tables;
+    bench::list::replay(counts, cpus, distances, pages, jobs, free, maps, words, answers)
 }
 
 #[test]
@@ -123,15 +136,18 @@ fn replays_agree() {
             }
         }
     }
-    seen.all("request", &[0, 8, 14]);
-    seen.all("release", &[0, 10, 14]);
+    seen.all("request", &[0, 8, 14, 15]);
+    seen.all("release", &[0, 10, 14, 15]);
+    seen.all("install", &[0, 5, 6, 15]);
     seen.all("fresh", &[0]);
+    seen.all("keep", &[0, 15]);
+    seen.all("set", &[0, 15]);
 }
 
 #[test]
 fn the_timed_calls_agree_and_their_counts_match() {
     for Work { name, nodes, start, calls, words } in [4, 16, 64].into_iter().flat_map(works) {
-        assert!(start.counts_match(), "{name} N {nodes}");
+        assert!(start.counts_match() && start.maps == identity_maps(nodes, 64), "{name} N {nodes}");
         let (mut tables, mut single, mut run) = (start.clone(), start.clone(), start);
         let mut answers = vec![0; calls.len()];
         assert_eq!(replay(&mut run, &words, &mut answers), Ok(calls.len()));
@@ -155,8 +171,8 @@ fn both_replays(start: &Tables, words: &[u64], room: usize) -> Result<usize, u8>
     let (mut one, mut other) = (start.clone(), start.clone());
     let (mut answers, mut expected) = (vec![7; room], vec![7; room]);
     let ran = replay(&mut one, words, &mut answers);
-    let Tables { counts, cpus, distances, pages, jobs, free } = &mut other;
-    let told = spirerivet::replay(counts, cpus, distances, pages, jobs, free, words, &mut expected);
+    let Tables { counts, cpus, distances, pages, jobs, free, maps } = &mut other;
+    let told = spirerivet::replay(counts, cpus, distances, pages, jobs, free, maps, words, &mut expected);
     assert_eq!(ran, told.map_err(|refusal| refusal.number()));
     assert!(one == other && answers == expected);
     ran
@@ -170,7 +186,7 @@ fn bad_lists_are_refused_alike() {
         assert_eq!(both_replays(&start, &words, calls.len()), Ok(calls.len()));
         assert_eq!(both_replays(&start, &words, calls.len() - 1), Err(11));
         assert_eq!(both_replays(&start, &words[1..], calls.len()), Err(13));
-        for kind in [0, 6, 15, 17, u64::MAX] {
+        for kind in [0, 6, 15, 19, u64::MAX] {
             let mut words = words.clone();
             words[16 * (seed as usize % calls.len())] = kind;
             assert_eq!(both_replays(&start, &words, calls.len()), Err(13));
@@ -178,9 +194,54 @@ fn bad_lists_are_refused_alike() {
         let mut broken = start.clone();
         broken.distances[0] = 11;
         assert_eq!(both_replays(&broken, &words, 0), Err(1));
+        let mut broken = start.clone();
+        wrong_length(&mut Dice::new(seed), &mut broken);
+        assert_eq!(both_replays(&broken, &words, 0), Err(1));
         for start in counts_of_every_sort(seed, &start) {
             let fits = start.free.len() == start.counts.len();
             assert_eq!(both_replays(&start, &words, calls.len()), if fits { Ok(calls.len()) } else { Err(1) });
+        }
+    }
+}
+
+/// Every call of a list on maps of one sort for all jobs, by single calls and by replay.
+#[test]
+fn maps_of_every_sort_agree() {
+    let mut seen = Seen::default();
+    for seed in 0..60 {
+        for sort in SORTS {
+            let mut dice = Dice::new(seed);
+            let (mut start, mut calls) = list(seed, 40);
+            for job in 0..start.jobs.len() / 6 {
+                put_map(&mut dice, &mut start, job, sort);
+                calls.push(Call::KeepNodes { job, kept: vec![0] });
+                calls.push(Call::SetMap { job, list: vec![0] });
+                calls.push(Call::Request { job, cpu: 0 });
+            }
+            let words: Vec<u64> = calls.iter().flat_map(words_of).collect();
+            assert_eq!(both_replays(&start, &words, calls.len()), Ok(calls.len()), "{sort:?} {seed}");
+            same(&format!("{sort:?} {seed}"), start.counts.len(), start, &calls, &mut seen);
+        }
+    }
+    seen.all("request", &[0, 8, 15]);
+    seen.all("release", &[0, 15]);
+    seen.all("install", &[0, 6, 15]);
+    seen.all("keep", &[0, 15]);
+    seen.all("set", &[0, 15]);
+}
+
+/// The lists of keep nodes and set map in a replay: any length may be said.
+#[test]
+fn lists_of_nodes_of_any_length_are_answered_alike() {
+    for seed in 0..60 {
+        let (start, _) = list(seed, 1);
+        for length in [0, 1, 2, 15, 16, 17, 63, 64, 65, 256, 257, 1 << 32, 1 << 32 | 1, u64::MAX] {
+            for (kind, nodes) in [(17, 0x0302_0100), (18, 0x0302_0100), (18, 0), (17, 0xFF00)] {
+                let mut call = [0x0F0E_0D0C_0B0A_0908; 16];
+                call[..6].copy_from_slice(&[kind, 0, 7, 7, 7, length]);
+                call[8] = nodes;
+                assert_eq!(both_replays(&start, &call, 1), Ok(1), "{length} nodes");
+            }
         }
     }
 }

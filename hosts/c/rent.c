@@ -1,4 +1,5 @@
-/* Rents out machine A of document 01 to one job, as ring {3,3,1}: prints each answer.
+/* Rents out machine A of document 01 to one job, as ring {3,3,1}, then to a tenant that numbers its nodes from 0: prints each
+ * answer.
  *
  *   rt staticlib spirerivet
  *   gcc -std=c11 hosts/c/rent.c target/staticlib/libspirerivet.a -o rent && ./rent | diff hosts/c/expected.txt -
@@ -9,7 +10,7 @@
 #include <string.h>
 #include "spirerivet.h"
 
-enum { NODES = 4, CPUS = 8, PAGES = 6, JOBS = 1, RENTER = 0 };
+enum { NODES = 4, CPUS = 8, PAGES = 6, JOBS = 2, RENTER = 0, TENANT = 1 };
 
 static const uint32_t counts[NODES] = {2, 2, 0, 2};
 static const uint8_t cpus[CPUS] = {0, 0, 1, 1, 2, 2, 3, 3};
@@ -22,16 +23,41 @@ static const uint8_t distances[NODES * NODES] = {
 static uint8_t pages[PAGES];
 static uint64_t jobs[JOBS * SPIRE_JOB_WORDS];
 static uint32_t free_counts[NODES];
+static uint8_t maps[JOBS * SPIRE_MAP_BYTES];
 
-static struct spire_answer request(size_t cpu)
+static struct spire_answer request(size_t job, size_t cpu)
 {
     return spire_request(counts, NODES, cpus, CPUS, distances, sizeof distances, pages, PAGES,
-                         jobs, JOBS * SPIRE_JOB_WORDS, free_counts, NODES, RENTER, cpu);
+                         jobs, JOBS * SPIRE_JOB_WORDS, free_counts, NODES, maps, sizeof maps, job, cpu);
 }
 
-static struct spire_answer release(size_t page)
+static struct spire_answer release(size_t job, size_t page)
 {
-    return spire_release(counts, NODES, pages, PAGES, jobs, JOBS * SPIRE_JOB_WORDS, free_counts, NODES, RENTER, page);
+    return spire_release(counts, NODES, pages, PAGES, jobs, JOBS * SPIRE_JOB_WORDS, free_counts, NODES,
+                         maps, sizeof maps, job, page);
+}
+
+/* Turns over places, by the job's own numbers. */
+static struct spire_answer ring(size_t job, const uint8_t *places, size_t length)
+{
+    return spire_install(NODES, jobs, JOBS * SPIRE_JOB_WORDS, maps, sizeof maps, job, SPIRE_RING, SPIRE_PLAIN, 0,
+                         places, length);
+}
+
+static struct spire_answer allow(size_t job, uint64_t nodes)
+{
+    return spire_rebind(NODES, jobs, JOBS * SPIRE_JOB_WORDS, job, nodes);
+}
+
+/* The administrator's call, by the machine's numbers, and the tenant's, by its own. */
+static struct spire_answer set_map(size_t job, const uint8_t *list, size_t length)
+{
+    return spire_set_map(NODES, jobs, JOBS * SPIRE_JOB_WORDS, maps, sizeof maps, job, list, length);
+}
+
+static struct spire_answer keep(size_t job, const uint8_t *kept, size_t length)
+{
+    return spire_keep_nodes(NODES, jobs, JOBS * SPIRE_JOB_WORDS, maps, sizeof maps, job, kept, length);
 }
 
 /* What a host does about SPIRE_WRONG_COUNT while pages are in use. */
@@ -49,8 +75,10 @@ static void show(const char *call, struct spire_answer a)
 {
     if (a.refusal != SPIRE_DONE)
         printf("%s: refused %u\n", call, (unsigned)a.refusal);
-    else if (a.node == SPIRE_NO_NODE)
+    else if (a.page == SPIRE_NO_PAGE)
         printf("%s: done\n", call);
+    else if (a.node == SPIRE_NO_NODE)
+        printf("%s: page %u, on no node of its map\n", call, (unsigned)a.page);
     else
         printf("%s: node %u, page %u\n", call, (unsigned)a.node, (unsigned)a.page);
 }
@@ -89,34 +117,61 @@ static void show_near(size_t node)
     printf(", in %lu rounds\n", (unsigned long)order.rounds);
 }
 
-int main(void)
+/* A job that numbers its nodes as the machine does. */
+static void rent_all(void)
 {
-    static const uint8_t places[] = {3, 3, 1};
+    static const uint8_t all[] = {0, 1, 2, 3}, places[] = {3, 3, 1};
     struct spire_answer a;
 
-    show("fresh", spire_fresh(counts, NODES, pages, PAGES, free_counts, NODES));
-    show_free();
-    show("allow 0-3", spire_rebind(NODES, jobs, JOBS * SPIRE_JOB_WORDS, RENTER, 0xF));
-    show("ring 3,3,1", spire_install(NODES, jobs, JOBS * SPIRE_JOB_WORDS, RENTER, SPIRE_RING, SPIRE_PLAIN, 0, places, sizeof places));
+    show("map 0,1,2,3", set_map(RENTER, all, sizeof all));
+    show("allow 0-3", allow(RENTER, 0xF));
+    show("ring 3,3,1", ring(RENTER, places, sizeof places));
     do {
-        a = request(0);
+        a = request(RENTER, 0);
         show("request", a);
     } while (a.refusal == SPIRE_DONE);
     show_free();
 
-    show("release 2", release(2));
-    show("release 2", release(2));
-    show("request", request(0));
-    show("request", request(CPUS));
+    show("release 2", release(RENTER, 2));
+    show("release 2", release(RENTER, 2));
+    show("request", request(RENTER, 0));
+    show("request", request(RENTER, CPUS));
 
     free_counts[3] = 1; /* Another hand on the counts: node 3 is full. */
-    a = request(0);
+    a = request(RENTER, 0);
     show("request", a);
     if (a.refusal == SPIRE_WRONG_COUNT)
         count_anew();
     show_free();
-    show("request", request(0));
+    show("request", request(RENTER, 0));
+}
 
+/* A tenant with nodes 3 and 0 of the machine, which are its nodes 0 and 1. */
+static void rent_two(void)
+{
+    static const uint8_t two[] = {3, 0}, places[] = {1, 0}, first[] = {0}, second[] = {1};
+
+    show("release 5", release(RENTER, 5));
+    show("tenant: allow 0-3", allow(TENANT, 0xF));
+    show("tenant: request", request(TENANT, 0)); /* Its map is all zeros still. */
+    show("tenant: map 3,0", set_map(TENANT, two, sizeof two));
+    show("tenant: ring 1,0", ring(TENANT, places, sizeof places));
+    show("tenant: request", request(TENANT, 0));
+    show("tenant: request", request(TENANT, 0));
+    show("tenant: keep 0", keep(TENANT, first, sizeof first));
+    show("tenant: keep 1", keep(TENANT, second, sizeof second));
+    show("tenant: ring 1,0", ring(TENANT, places, sizeof places));
+    show("tenant: request", request(TENANT, 0));
+    show("tenant: release 0", release(TENANT, 0));
+    show("tenant: release 5", release(TENANT, 5));
+}
+
+int main(void)
+{
+    show("fresh", spire_fresh(counts, NODES, pages, PAGES, free_counts, NODES));
+    show_free();
+    rent_all();
+    rent_two();
     show_nodes("!1-2");
     show_nodes("5-3");
     show_near(0);

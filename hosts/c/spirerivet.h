@@ -10,7 +10,11 @@
  *   pages        a byte for each page, node 0's first: 0 free, j + 1 held by job j
  *   jobs         SPIRE_JOB_WORDS words for each of 1 to 64 jobs; all zero: a fresh job
  *   free_counts  the number of free pages of each node, N counts: spire_fresh makes them, request and release keep them up
+ *   maps         SPIRE_MAP_BYTES bytes for each job: 1 to 64 different nodes of the machine, then SPIRE_MAP_END to the end
  *   masks        bit n stands for node n
+ *
+ * A node has two numbers: a SYSTEM number, the machine's, and for each job an APPLICATION number, its place in the job's map,
+ * from 0. A tenant names its nodes, and is told them, by application numbers; it never sees the machine's.
  */
 #ifndef SPIRERIVET_H
 #define SPIRERIVET_H
@@ -26,18 +30,20 @@ extern "C" {
 #define SPIRE_PLACES 16           /* most places in a list */
 #define SPIRE_TEXT_BYTES 255      /* longest node list that is read */
 #define SPIRE_CALL_WORDS 16       /* words of a call in a replay */
+#define SPIRE_MAP_BYTES 64        /* bytes of a job's map */
+#define SPIRE_MAP_END 0xFF        /* what stands after the last node of a map */
 #define SPIRE_NO_NODE 0xFF
 #define SPIRE_NO_PAGE 0xFFFFFFFF
 
 /* The number in `refusal`. */
 enum spire_refusal {
     SPIRE_DONE = 0,
-    SPIRE_BAD_TABLES = 1,         /* the machine's tables, or the number of job words or free counts, break the rules */
+    SPIRE_BAD_TABLES = 1,         /* the machine's tables, or the number of job words, free counts or map bytes, are wrong */
     SPIRE_NO_SUCH_JOB = 2,
     SPIRE_NO_SUCH_CPU = 3,
     SPIRE_MALFORMED_RECORD = 4,   /* the job's six words are no record; clear makes them one */
     SPIRE_UNKNOWN_POLICY = 5,     /* no such mode or flag, or a flag that this mode does not take */
-    SPIRE_DOES_NOT_FIT = 6,       /* the mask, the places or the node do not fit */
+    SPIRE_DOES_NOT_FIT = 6,       /* the mask, the places or the node do not fit; also a number past the map's end */
     SPIRE_NOTHING_ALLOWED = 7,    /* the allowed set is empty */
     SPIRE_NO_ROOM = 8,            /* every node in the search order is counted 0: full, if the counts match */
     SPIRE_NOTHING_EFFECTIVE = 9,  /* the rebind would leave the job's mask empty */
@@ -45,9 +51,12 @@ enum spire_refusal {
     SPIRE_OUTPUT_TOO_SHORT = 11,
     SPIRE_BAD_TEXT = 12,
     SPIRE_DAMAGED_JOURNAL = 13,   /* a replay's list of calls has an unknown kind or is cut short */
-    SPIRE_WRONG_COUNT = 14        /* a free count disagrees with the page table: a node counted above 0 has no free page, or
+    SPIRE_WRONG_COUNT = 14,       /* a free count disagrees with the page table: a node counted above 0 has no free page, or
                                    * a release would count more free pages than its node has. Count the free pages of each
                                    * node anew, or call spire_fresh when no page is in use */
+    SPIRE_BAD_MAP = 15            /* the job's map is none: empty, a node twice, a node that the machine does not have, or one
+                                   * after an SPIRE_MAP_END; set it anew by spire_set_map. Or the list of spire_keep_nodes or
+                                   * spire_set_map is no good one */
 };
 
 enum spire_mode {
@@ -62,7 +71,7 @@ enum spire_mode {
 
 enum spire_flag { SPIRE_PLAIN = 0, SPIRE_STATIC = 1, SPIRE_RELATIVE = 2 };
 
-/* An answer. Where there is no node and no page: SPIRE_NO_NODE, SPIRE_NO_PAGE. */
+/* An answer; the node by its application number. Where there is no node and no page: SPIRE_NO_NODE, SPIRE_NO_PAGE. */
 struct spire_answer {
     uint8_t refusal;
     uint8_t node;
@@ -82,32 +91,44 @@ struct spire_order {
     uint32_t rounds;
 };
 
-/* A page for a job that runs on a CPU: its node and its number. Nodes counted 0 are passed over. Writes pages, jobs and
- * free_counts. Refusals 1, 2, 3, 4, 14, 8. */
+/* A page for a job that runs on a CPU: its node and its number. Only allowed nodes that are in the job's map are tried; those
+ * counted 0 are passed over. Writes pages, jobs and free_counts. Refusals 1, 2, 15, 3, 4, 14, 8. */
 struct spire_answer spire_request(const uint32_t *counts, size_t nodes, const uint8_t *cpus, size_t cpu_count,
                                   const uint8_t *distances, size_t distance_count, uint8_t *pages, size_t page_count,
                                   uint64_t *jobs, size_t job_words, uint32_t *free_counts, size_t free_len,
-                                  size_t job, size_t cpu);
+                                  const uint8_t *maps, size_t map_bytes, size_t job, size_t cpu);
 
-/* A page given back by the job that holds it: its node and its number. Writes pages and free_counts. Refusals 1, 2, 10,
- * 14. */
+/* A page given back by the job that holds it: its node, SPIRE_NO_NODE if that is outside the job's map, and its number.
+ * Writes pages and free_counts. Refusals 1, 2, 15, 10, 14. */
 struct spire_answer spire_release(const uint32_t *counts, size_t nodes, uint8_t *pages, size_t page_count,
                                   const uint64_t *jobs, size_t job_words, uint32_t *free_counts, size_t free_len,
-                                  size_t job, size_t page);
+                                  const uint8_t *maps, size_t map_bytes, size_t job, size_t page);
 
 /* Every page of the machine made free, and counted: what a host begins with. Writes pages, none past the last one, and
  * free_counts. Refusal 1. */
 struct spire_answer spire_fresh(const uint32_t *counts, size_t nodes, uint8_t *pages, size_t page_count,
                                 uint32_t *free_counts, size_t free_len);
 
-/* A job's policy: a mask (modes 1 to 3) or places, a node number each (modes 4 to 6). Writes jobs. Refusals 1, 2, 4, 5, 7, 6. */
-struct spire_answer spire_install(size_t nodes, uint64_t *jobs, size_t job_words, size_t job, uint64_t mode, uint64_t flag,
-                                  uint64_t mask, const uint8_t *places, size_t place_count);
+/* A job's policy: a mask (modes 1 to 3) or places, a node each (modes 4 to 6), by application numbers; a relative mask has
+ * ranks. The record gets system numbers. Writes jobs. Refusals 1, 2, 15, 4, 5, 7, 6. */
+struct spire_answer spire_install(size_t nodes, uint64_t *jobs, size_t job_words, const uint8_t *maps, size_t map_bytes,
+                                  size_t job, uint64_t mode, uint64_t flag, uint64_t mask,
+                                  const uint8_t *places, size_t place_count);
 
-/* A job's allowed nodes; the first call for a fresh job. Writes jobs. Refusals 1, 2, 4, 6, 7, 9. */
+/* The tenant's call: its job keeps these nodes of its map, by application numbers, one or more, rising, and drops the others.
+ * They are numbered from 0 again, in the same order. Writes maps. Refusals 1, 2, 15. */
+struct spire_answer spire_keep_nodes(size_t nodes, const uint64_t *jobs, size_t job_words, uint8_t *maps, size_t map_bytes,
+                                     size_t job, const uint8_t *kept, size_t kept_count);
+
+/* The administrator's call: a map for a job, whatever it had: 1 to 64 different nodes by system numbers, without
+ * SPIRE_MAP_END. Writes maps. Refusals 1, 2, 15. */
+struct spire_answer spire_set_map(size_t nodes, const uint64_t *jobs, size_t job_words, uint8_t *maps, size_t map_bytes,
+                                  size_t job, const uint8_t *list, size_t list_count);
+
+/* A job's allowed nodes, by system numbers; the first call for a fresh job. Writes jobs. Refusals 1, 2, 4, 6, 7, 9. */
 struct spire_answer spire_rebind(size_t nodes, uint64_t *jobs, size_t job_words, size_t job, uint64_t allowed);
 
-/* A job made fresh; the pages that it holds stay held. Writes jobs. Refusals 1, 2. */
+/* A job made fresh; the pages that it holds stay held, and its map stays. Writes jobs. Refusals 1, 2. */
 struct spire_answer spire_clear(size_t nodes, uint64_t *jobs, size_t job_words, size_t job);
 
 /* The mask of a node list such as `0-3,6`, `!4-5`, `+0-1` (ranks in `allowed`) or `all`. Refusals 1, 6, 12. */
@@ -116,23 +137,24 @@ struct spire_number spire_read_nodes(size_t nodes, uint64_t allowed, const uint8
 /* The node list of a mask, with no zero byte at its end: its length. Writes that many bytes of out. Refusals 1, 6, 11. */
 struct spire_number spire_write_nodes(size_t nodes, uint64_t mask, uint8_t *out, size_t out_bytes);
 
-/* near(x), x being `node`, over a set of nodes: x first if it is in the set, then the others of the set at a distance below
- * 255 in row x, nearer first, the lower number first when equal. Writes a byte for each of these nodes at the start of out;
- * 64 bytes are always enough. Takes a round for each node of the machine, then one for each node listed other than x: at most
- * 127. Refusals 1, 6, 11. */
+/* near(x), x being `node`, over a set of nodes, all by system numbers: x first if it is in the set, then the others of the set
+ * at a distance below 255 in row x, nearer first, the lower number first when equal. Writes a byte for each of these nodes at
+ * the start of out; 64 bytes are always enough. Takes a round for each node of the machine, then one for each node listed
+ * other than x: at most 127. Refusals 1, 6, 11. */
 struct spire_order spire_near(size_t nodes, const uint8_t *distances, size_t distance_count, uint64_t set, size_t node,
                               uint8_t *out, size_t out_bytes);
 
 /* A list of calls, one after the other: how many. A call is SPIRE_CALL_WORDS words: kind (1 request, 2 release, 3 rebind,
- * 4 install, 5 clear, 16 fresh); job; CPU, page, allowed mask or mode; flag; user mask; number of places; two words unused;
- * then the first 64 places, one byte each, lowest byte first. Any number of places may be said, those past the 64th are
- * zero: over SPIRE_PLACES of them the install is refused in its own order, as in spire_install. A fresh has its kind alone.
- * An answer is one word: refusal in bits 0-7, node in 8-15, page in 32-63. Writes pages, jobs, free_counts and an answer
- * for each call. Refusals, then with no call run: 1; 13 (an unknown kind, or call_words no multiple of SPIRE_CALL_WORDS); 11
- * (fewer answers than calls). */
+ * 4 install, 5 clear, 16 fresh, 17 keep nodes, 18 set map); job; CPU, page, allowed mask or mode; flag; user mask; number of
+ * places or nodes; two words unused; then the first 64 places or nodes, one byte each, lowest byte first. Any number may be
+ * said, those past the 64th are zero: over SPIRE_PLACES places the install is refused in its own order, as in spire_install,
+ * over 64 nodes a keep or a set likewise. A fresh has its kind alone. An answer is one word: refusal in bits 0-7, node in
+ * 8-15, page in 32-63. Writes pages, jobs, free_counts, maps and an answer for each call. Refusals, then with no call run: 1;
+ * 13 (an unknown kind, or call_words no multiple of SPIRE_CALL_WORDS); 11 (fewer answers than calls). */
 struct spire_number spire_replay(const uint32_t *counts, size_t nodes, const uint8_t *cpus, size_t cpu_count,
                                  const uint8_t *distances, size_t distance_count, uint8_t *pages, size_t page_count,
                                  uint64_t *jobs, size_t job_words, uint32_t *free_counts, size_t free_len,
+                                 uint8_t *maps, size_t map_bytes,
                                  const uint64_t *calls, size_t call_words, uint64_t *answers, size_t answer_count);
 
 /* A whole journal, machine record first: the length of its answers, 12 bytes each. Writes that many bytes of output. Refusal

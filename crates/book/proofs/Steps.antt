@@ -5,15 +5,15 @@ use mathlib.Core.Path.{_≡_, sym, _∙_}
 use mathlib.Core.List.{List}
 use Rattle.rules.specs.Machine.{Machine, nodeCount}
 use Rattle.rules.specs.Records.{Policy, policy}
-use Rattle.rules.specs.Calls.{Answer, Tables, outcome, onRequest, onRelease, onFresh, onInstall, onRebind, onClear}
+use Rattle.rules.specs.Calls.{Answer, Tables, outcome, onRequest, onRelease, onFresh, onInstall, onRebind, onClear, onKeep, onSetMap}
 use Rattle.rules.specs.Book.{Call as LawCall, request, release, rebind, clear, freshTable, decision, step}
-use Rattle.records.specs.declared.policy.Policy.{Policy as Asked}
+use Rattle.records.specs.declared.policy.AppPolicy.{AppPolicy}
 use Rattle.records.specs.Jobs.{Asks}
 use Rattle.book.specs.declared.Call.{Call}
-use Rattle.book.specs.declared.Call.the-variants.{Request, Release, Rebind, Install, Clear, Fresh}
-use Rattle.book.specs.Says.{Says}
+use Rattle.book.specs.declared.Call.the-variants.{Request, Release, Rebind, Install, Clear, Fresh, Keep, SetMap}
+use Rattle.book.specs.Says.{Named, Says}
 
-module _ (m : Machine) (t after : Tables) (a : Answer) (call : Call) (places : List ℕ) (c : LawCall) (s : Says call places c) where
+module _ (m : Machine) (t after : Tables) (a : Answer) (call : Call) (places bytes : List ℕ) (c : LawCall) (s : Says call places bytes c) where
   -- a request
   pub did-request : {j k : ℕ} → call ≡ Request j k → outcome a after ≡ onRequest m t j k → outcome a after ≡ step m t c
   unfolding step decision onRequest
@@ -40,12 +40,30 @@ module _ (m : Machine) (t after : Tables) (a : Answer) (call : Call) (places : L
   did-fresh e o = let q : c ≡ freshTable = rw e at s in rw q o
 
   -- an install: for the policy that the value asks for
-  pub did-install : {j mode flag mask len : ℕ} (asked : Asked) → call ≡ Install j mode flag mask len
-      → asked .mode ≡ mode → asked .flag ≡ flag → asked .user .0 ≡ mask → asked .len ≡ len → asked .places ≡ places
+  pub did-install : {j mode flag mask len : ℕ} (asked : AppPolicy) → call ≡ Install j mode flag mask len
+      → asked .mode ≡ mode → asked .flag ≡ flag → asked .user ≡ mask → asked .len ≡ len → asked .places ≡ places
       → ((p : Policy) → Asks asked p → outcome a after ≡ onInstall (nodeCount m) t j p) → outcome a after ≡ step m t c
   unfolding step decision onInstall
   did-install {j} {mode} {flag} {mask} {len} asked e m′ f u l ps o =
       let q = rw e at s in
       let asks : Asks asked (policy mode flag mask (q .0)) =
-      record { mode = sym m′; flag = sym f; user = sym u; len = sym (q .2 .long) ∙ sym l; places = sym (q .2 .held) ∙ sym ps } in
+      record {
+        same-mode = sym m′;
+        same-flag = sym f;
+        same-user = sym u;
+        same-len = sym (q .2 .long) ∙ sym l;
+        same-places = sym (q .2 .held) ∙ sym ps;
+      } in
       rw (q .1) (o (policy mode flag mask (q .0)) asks)
+
+  -- M-103: the tenant's call
+  pub did-keep : {j len : ℕ} → call ≡ Keep j len → ((list : List ℕ) → Named len bytes list → outcome a after ≡ onKeep (nodeCount m) t j list)
+      → outcome a after ≡ step m t c
+  unfolding step decision onKeep
+  did-keep {j} {len} e o = let q = rw e at s in rw (q .1) (o (q .0) (q .2))
+
+  -- and the administrator's
+  pub did-set : {j len : ℕ} → call ≡ SetMap j len → ((list : List ℕ) → Named len bytes list → outcome a after ≡ onSetMap (nodeCount m) t j list)
+      → outcome a after ≡ step m t c
+  unfolding step decision onSetMap
+  did-set {j} {len} e o = let q = rw e at s in rw (q .1) (o (q .0) (q .2))

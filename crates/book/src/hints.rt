@@ -9,26 +9,27 @@ ghost use Rattle.rules.specs.Calls.{Tables, tablesOf, withPages, outcome, reque
 ghost use Rattle.machine.specs.Tables.{machineOf, Starts};
 ghost use Rattle.placement.specs.Hints.{Hints, hinted, Named};
 use placement;
+use placement::placed;
+use placement::placed::Placed;
 use rules::Answer;
 use rules::MOST_NODES;
 
-// The hints after an answer: a page that was granted was the lowest free one of its node.
-fn keep(hints: &mut [u32; MOST_NODES + 1], answer: Answer)
-    requires { ⌜ Named (answerOf answer) ⌝ }
-    ensures { λ _. ⌜ now (hints .exit) ≡ hinted (now (hints .entry)) (answerOf answer) ⌝ }
+// The hints after a page is placed: one that was granted was the lowest free one of its node.
+fn keep(hints: &mut [u32; MOST_NODES + 1], placed: Placed)
+    requires { ⌜ Named placed ⌝ }
+    ensures { λ _. ⌜ now (hints .exit) ≡ hinted (now (hints .entry)) placed ⌝ }
 {
-    match answer {
-        Answer::Granted(node, page) => {
+    match placed {
+        Placed::Granted(node, page) => {
             hints[node.0 as usize] = page.0 + 1;
         }
-        Answer::Released(node, page) => {
+        Placed::Released(node, page) => {
             let n = node.0 as usize;
             if page.0 < hints[n] {
                 hints[n] = page.0;
             }
         }
-        Answer::Done => {}
-        Answer::Refused(_) => {}
+        Placed::Refused(_) => {}
     }
 }
 
@@ -42,14 +43,15 @@ pub fn request(
     pages: &mut [u8],
     jobs: &mut [u64],
     free: &mut [u32],
+    maps: &[u8],
     job: usize,
     cpu: usize,
 ) -> Answer
-    requires { ⌜ (requestTablesOk (machineOf (now counts) (now cpus) (now distances)) (tablesOf (now pages) (now jobs) (now free)) ≡ true) × Starts (now counts) (now starts) × Hints (now counts) (now pages) (now hints) ⌝ }
-    ensures did { λ r. ⌜ outcome (answerOf r) (tablesOf (now (pages .exit)) (now (jobs .exit)) (now (free .exit))) ≡ onRequest (machineOf (now (counts .entry)) (now (cpus .entry)) (now (distances .entry))) (tablesOf (now (pages .entry)) (now (jobs .entry)) (now (free .entry))) job cpu ⌝ }
+    requires { ⌜ (requestTablesOk (machineOf (now counts) (now cpus) (now distances)) (tablesOf (now pages) (now jobs) (now free) (now maps)) ≡ true) × Starts (now counts) (now starts) × Hints (now counts) (now pages) (now hints) ⌝ }
+    ensures did { λ r. ⌜ outcome (answerOf r) (tablesOf (now (pages .exit)) (now (jobs .exit)) (now (free .exit)) (now (maps .entry))) ≡ onRequest (machineOf (now (counts .entry)) (now (cpus .entry)) (now (distances .entry))) (tablesOf (now (pages .entry)) (now (jobs .entry)) (now (free .entry)) (now (maps .entry))) job cpu ⌝ }
     ensures kept { λ r. ⌜ Hints (now (counts .entry)) (now (pages .exit)) (now (hints .exit)) ⌝ }
 {
-    let answer = placement::request_at(
+    let placed = placement::request_at(
         counts,
         starts,
         hints,
@@ -58,11 +60,12 @@ pub fn request(
         pages,
         jobs,
         free,
+        maps,
         job,
         cpu,
     );
-    keep(hints, answer);
-    answer
+    keep(hints, placed);
+    placed::tell(maps, job, placed)
 }
 
 // A release on tables that are in order.
@@ -73,16 +76,17 @@ pub fn release(
     pages: &mut [u8],
     jobs: &[u64],
     free: &mut [u32],
+    maps: &[u8],
     job: usize,
     page: usize,
 ) -> Answer
-    requires { ⌜ (releaseTablesOk (now counts) (tablesOf (now pages) (now jobs) (now free)) ≡ true) × Starts (now counts) (now starts) × Hints (now counts) (now pages) (now hints) ⌝ }
-    ensures did { λ r. ⌜ outcome (answerOf r) (tablesOf (now (pages .exit)) (now (jobs .entry)) (now (free .exit))) ≡ onRelease (now (counts .entry)) (tablesOf (now (pages .entry)) (now (jobs .entry)) (now (free .entry))) job page ⌝ }
+    requires { ⌜ (releaseTablesOk (now counts) (tablesOf (now pages) (now jobs) (now free) (now maps)) ≡ true) × Starts (now counts) (now starts) × Hints (now counts) (now pages) (now hints) ⌝ }
+    ensures did { λ r. ⌜ outcome (answerOf r) (tablesOf (now (pages .exit)) (now (jobs .entry)) (now (free .exit)) (now (maps .entry))) ≡ onRelease (now (counts .entry)) (tablesOf (now (pages .entry)) (now (jobs .entry)) (now (free .entry)) (now (maps .entry))) job page ⌝ }
     ensures kept { λ r. ⌜ Hints (now (counts .entry)) (now (pages .exit)) (now (hints .exit)) ⌝ }
 {
-    let answer = placement::release_at(counts, starts, pages, jobs, free, job, page);
-    keep(hints, answer);
-    answer
+    let placed = placement::release_at(counts, starts, pages, jobs, free, maps, job, page);
+    keep(hints, placed);
+    placed::tell(maps, job, placed)
 }
 
 // The fresh table on tables that are in order: no page is held.

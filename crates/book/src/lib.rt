@@ -8,16 +8,17 @@ ghost use Rattle.rules.specs.Book.{Call as LawCall, step};
 ghost use Rattle.machine.specs.Tables.{machineOf, Starts};
 ghost use Rattle.placement.specs.Hints.{Hints};
 ghost use Rattle.book.specs.Says.{Says};
-use nodemask::Mask;
 use records;
-use records::policy::Policy;
+use records::policy::AppPolicy;
 use rules::Answer;
 use rules::MOST_NODES;
 use rules::PLACES_PER_JOB;
 
 mod hints;
+mod lists;
 
-// A call. The places of an install stand beside it, sixteen of them with zeros behind the list; `len` is how many the list has.
+// A call. The places of an install stand beside it, sixteen of them with zeros behind the list, and so does the list of a call that sets a
+// map; `len` is how many the list has.
 pub enum Call {
     Request {
         job: usize,
@@ -42,6 +43,14 @@ pub enum Call {
         job: usize,
     },
     Fresh,
+    Keep {
+        job: usize,
+        len: usize,
+    },
+    SetMap {
+        job: usize,
+        len: usize,
+    },
 }
 
 // Runs a call on tables that are in order, and keeps the hints.
@@ -54,11 +63,13 @@ pub fn perform(
     pages: &mut [u8],
     jobs: &mut [u64],
     free: &mut [u32],
+    maps: &mut [u8],
     call: Call,
     places: [u8; PLACES_PER_JOB],
+    list: &[u8],
 ) -> Answer
-    requires { ⌜ (requestTablesOk (machineOf (now counts) (now cpus) (now distances)) (tablesOf (now pages) (now jobs) (now free)) ≡ true) × Starts (now counts) (now starts) × Hints (now counts) (now pages) (now hints) ⌝ }
-    ensures did { λ r. ⌜ ((c : LawCall) → Says call places c → outcome (answerOf r) (tablesOf (now (pages .exit)) (now (jobs .exit)) (now (free .exit))) ≡ step (machineOf (now (counts .entry)) (now (cpus .entry)) (now (distances .entry))) (tablesOf (now (pages .entry)) (now (jobs .entry)) (now (free .entry))) c) ⌝ }
+    requires { ⌜ (requestTablesOk (machineOf (now counts) (now cpus) (now distances)) (tablesOf (now pages) (now jobs) (now free) (now maps)) ≡ true) × Starts (now counts) (now starts) × Hints (now counts) (now pages) (now hints) ⌝ }
+    ensures did { λ r. ⌜ ((c : LawCall) → Says call places (now (list .entry)) c → outcome (answerOf r) (tablesOf (now (pages .exit)) (now (jobs .exit)) (now (free .exit)) (now (maps .exit))) ≡ step (machineOf (now (counts .entry)) (now (cpus .entry)) (now (distances .entry))) (tablesOf (now (pages .entry)) (now (jobs .entry)) (now (free .entry)) (now (maps .entry))) c) ⌝ }
     ensures kept { λ r. ⌜ Hints (now (counts .entry)) (now (pages .exit)) (now (hints .exit)) ⌝ }
 {
     let nodes = counts.len();
@@ -73,12 +84,13 @@ pub fn perform(
                 pages,
                 jobs,
                 free,
+                maps,
                 job,
                 cpu,
             )
         }
         Call::Release { job, page } => {
-            hints::release(counts, starts, hints, pages, jobs, free, job, page)
+            hints::release(counts, starts, hints, pages, jobs, free, maps, job, page)
         }
         Call::Rebind { job, allowed } => records::rebind_at(nodes, jobs, job, allowed),
         Call::Install {
@@ -88,16 +100,18 @@ pub fn perform(
             mask,
             len,
         } => {
-            let policy = Policy {
+            let policy = AppPolicy {
                 mode: mode,
                 flag: flag,
-                user: Mask(mask),
+                user: mask,
                 len: len,
                 places: places,
             };
-            records::install_at(nodes, jobs, job, policy)
+            records::install_at(nodes, jobs, maps, job, policy)
         }
         Call::Clear { job } => records::clear_at(nodes, jobs, job),
         Call::Fresh => hints::fresh(counts, starts, hints, pages, free),
+        Call::Keep { job, len } => lists::keep(nodes, jobs, maps, job, list, len),
+        Call::SetMap { job, len } => lists::set(nodes, jobs, maps, job, list, len),
     }
 }

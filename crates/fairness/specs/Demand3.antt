@@ -13,7 +13,7 @@ use Rattle.rules.specs.Masks.{mostNodes, has, size}
 use Rattle.rules.specs.Records.{Record, recordAt}
 use Rattle.rules.specs.SearchOrder.{nodeAt, ringPlaces, hasRoom}
 use Rattle.rules.specs.Calls.{Answer, granted, released, done, refused, Tables, limitOf}
-use Rattle.rules.specs.Book.{Call, request, release, install, rebind, clear, freshTable, step}
+use Rattle.rules.specs.Book.{Call, request, release, install, rebind, clear, freshTable, keepNodes, setMap, step}
 use Rattle.rules.specs.FreeCounts.{Matches}
 
 -- the record of job j in some tables
@@ -39,6 +39,8 @@ grantIn m j t (install i p) = []
 grantIn m j t (rebind i allowed) = []
 grantIn m j t (clear i) = []
 grantIn m j t freshTable = []
+grantIn m j t (keepNodes i kept) = []
+grantIn m j t (setMap i nodes) = []
 
 -- "whatever other jobs do between them": those in a list of calls, in their order
 unfoldable pub grants : Machine → ℕ → Tables → List Call → List Grant
@@ -46,7 +48,8 @@ grants m j t [] = []
 grants m j t (c ∷ cs) = grantIn m j t c ++ grants m j (step m t c .tables) cs
 
 -- "A call to set its policy or limits, even to what they were, is in the list only if refused". Clear need not be barred: it makes
--- the record fresh, and a fresh job is allowed no node until a rebind is granted, which is barred; so all its grants came before.
+-- the record fresh, and a fresh job is allowed no node until a rebind is granted, which is barred; so all its grants came before. M-103's
+-- two calls set limits.
 unfoldable pub setsPolicy : ℕ → Call → Bool
 setsPolicy j (request i k) = false
 setsPolicy j (release i p) = false
@@ -54,6 +57,8 @@ setsPolicy j (install i p) = eqb i j
 setsPolicy j (rebind i allowed) = eqb i j
 setsPolicy j (clear i) = false
 setsPolicy j freshTable = false
+setsPolicy j (keepNodes i kept) = eqb i j
+setsPolicy j (setMap i nodes) = eqb i j
 
 unfoldable pub isRefused : Answer → Bool
 isRefused (granted n p) = false
@@ -65,7 +70,8 @@ unfoldable pub PolicyKept : Machine → ℕ → Tables → List Call → Type 0
 PolicyKept m j t [] = Unit {0}
 PolicyKept m j t (c ∷ cs) = (setsPolicy j c ≡ true → isRefused (step m t c .answer) ≡ true) × PolicyKept m j (step m t c .tables) cs
 
--- "allowed and has a free page": node n, for job j; "a byte of N or more is not allowed"
+-- "allowed and has a free page": node n, for job j; "a byte of N or more is not allowed"; M-103: "In demand 3 "allowed" then means in both", the
+-- allowed set and the map, "for places and effective nodes alike"
 unfoldable pub isOpen : Machine → Tables → ℕ → ℕ → Bool
 isOpen m t j n = ltb n (nodeCount m) && has (limitOf t j) n && hasRoom (m .pageCounts) (t .ledger) n
 

@@ -18,7 +18,7 @@ use Rattle.rules.specs.Book.{Call, clear, final}
 use Rattle.rules.specs.Ledger.{lastElse}
 use Rattle.fairness.specs.Demand3.{recordIn, Grant, grants, PolicyKept, nodeGranted}
 
--- place p of job j can grant: the node that it names is one of the machine's, allowed, and (M-100) counted above 0
+-- place p of job j can grant: the node that it names is one of the machine's, allowed and in the map, and (M-100) counted above 0
 unfoldable pub placeServes : Machine → Tables → ℕ → ℕ → Bool
 placeServes m t j p =
     let n = nodeAt (recordIn t j) p in
@@ -38,7 +38,7 @@ pub record GoesOn (m : Machine) (j : ℕ) (g : Grant) (later : Tables) : Type 0 
   -- "any grant in mode 6 sets the cursor to the granted place", and nothing else of the record changes
   pub stored : recordIn later j ≡ withTurn (recordIn (g .before) j) (lastIs place)
   pub next-search : (k : ℕ) → let r = recordIn (g .before) j in
-      orderOf m later j k ≡ tried (nodeCount m) (r .allowed) (placeTries r (0 ∷ around (r .len) (suc place) (r .len)))
+      orderOf m later j k ≡ tried (nodeCount m) (limitOf (g .before) j) (placeTries r (0 ∷ around (r .len) (suc place) (r .len)))
 
 -- Of every list of calls, from any tables in which job j is in mode 6, that sets its policy by no granted call and does not clear it, as every
 -- list of requests and releases: after the list the job goes on from its last grant in it.

@@ -9,6 +9,7 @@ use Rattle.rules.specs.Basics.{openBasics, all, same}
 use Rattle.rules.specs.Machine.{openMachine}
 use Rattle.rules.specs.Masks.{openMasks}
 use Rattle.rules.specs.Records.{openRecords, wordsPerJob}
+use Rattle.rules.specs.Maps.{openMaps, identityMaps}
 use Rattle.rules.specs.SearchOrder.{openSearchOrder}
 use Rattle.rules.specs.Calls.{openCalls, Tables, tablesOf, numbers}
 use Rattle.rules.specs.Book.{openBook, Call, request, release, rebind, clear, step, answers, final}
@@ -23,12 +24,12 @@ unfolding grantBy grantIn grants setsPolicy isRefused PolicyKept isOpen placeOpe
 openDemand3 = tt
 
 unfoldable pub openAll : Unit {0}
-unfolding openBasics openMachine openMasks openRecords openSearchOrder openCalls openBook openDemand3
+unfolding openBasics openMachine openMasks openRecords openMaps openSearchOrder openCalls openBook openDemand3
 openAll = tt
 
--- the tables that these calls leave, from all pages free and two fresh jobs
+-- the tables that these calls leave, from all pages free and two fresh jobs with map 0 to 3
 abbrev pub made : List Call → Tables
-made cs = final machineA (tablesOf (replicate 6 0) (replicate (wordsPerJob * 2) 0) (machineA .pageCounts)) cs
+made cs = final machineA (tablesOf (replicate 6 0) (replicate (wordsPerJob * 2) 0) (machineA .pageCounts) (identityMaps 4 2)) cs
 
 -- job 0 on nodes 0, 1 and 3 in this mode, job 1 default
 abbrev pub start : ℕ → ℕ → List ℕ → Tables
@@ -120,7 +121,7 @@ premise-needed = tt
 
 -- the same job, with node 3 counted 0 though both its pages are free
 abbrev pub miscounted : Tables
-miscounted = tablesOf (pair .ledger) (pair .records) (2 ∷ 2 ∷ 0 ∷ 0 ∷ [])
+miscounted = tablesOf (pair .ledger) (pair .records) (2 ∷ 2 ∷ 0 ∷ 0 ∷ []) (pair .maps)
 
 -- two requests, and no call that sets a policy
 abbrev pub twice : List Call

@@ -6,5 +6,6 @@ pub mod Answers
 pub mod Parts
 pub mod BookRun
 pub mod MachineRecord
+pub mod IdentityMaps
 pub mod Whole
 pub mod Within

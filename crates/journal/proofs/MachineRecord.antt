@@ -12,7 +12,7 @@ use lib.Dec.{leb, eqb}
 use lib.ListN.{length, take, set}
 use lib.Seq.{length-take-le, take-suc-set, getD-take}
 use Rattle.rules.specs.Basics.{from, sum, between}
-use Rattle.rules.specs.Machine.{machineOk}
+use Rattle.rules.specs.Machine.{nodeCount, machineOk}
 use Rattle.rules.specs.Decisions.{unless, accept}
 use Rattle.rules.specs.Journal.{byteAt, number, marked, headSize, headOk, countsOk, machineSize, machineIn, journalPages, opening}
 use Rattle.journal.specs.Opening.{openingSize}
@@ -66,13 +66,15 @@ pub record Cut (bs : List ℕ) (n : ℕ) (all : List ℕ) : Type 0 where
   pub long : n ≡ length (take n all)
   pub few : length (take n all) ≤ 16
   pub counts : take n all ≡ machineIn bs .pageCounts
+  pub nodes : n ≡ nodeCount (machineIn bs)
 
 pub cut : (bs : List ℕ) {n : ℕ} (all : List ℕ) → countsOk bs ≡ true → n ≡ byteAt bs 3 → length all ≡ 16 → take (byteAt bs 3) all ≡ machineIn bs .pageCounts
     → Cut bs n all
 cut bs {n} all h e l t =
     let most : byteAt bs 3 ≤ 16 = nodes-most bs h in
     let size : length (take n all) ≡ n = length-take-le n all (omega arith) in
-    record { inside = omega arith; long = sym size; few = omega arith; counts = rw e t }
+    let counts : take n all ≡ machineIn bs .pageCounts = rw e t in
+    record { inside = omega arith; long = sym size; few = omega arith; counts = counts; nodes = sym size ∙ ap length counts }
 
 -- What a good machine record holds, k bytes of it.
 pub record Good (bs : List ℕ) (k : ℕ) : Type 0 where

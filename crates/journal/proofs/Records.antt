@@ -3,7 +3,7 @@
 use Prim.Native.Nat.{ℕ, zero, suc, _+_, _-_, _≤_, _<_}
 use mathlib.Core.Path.{_≡_, refl, sym, ap, subst, _∙_}
 use mathlib.Core.Bool.{Bool, true, false, cond}
-use mathlib.Core.List.{List, _∷_, _++_}
+use mathlib.Core.List.{List, [], _∷_, _++_}
 use native.Mathlib.Nat.{add-zero}
 use native.Mathlib.Omega.{arith}
 use borrow.Author.Tests.{leb-true, lt-leb, eqb-true}
@@ -17,6 +17,7 @@ use Rattle.rules.specs.Book.{Call as LawCall}
 use Rattle.rules.specs.Journal.{Entry, Kind, request′, release′, rebind′, install′, clear′, unknownKind, byteAt, part, marked, kindOf, sizeOf}
 use Rattle.rules.specs.Journal.{unusedBytesZero, callIn, readRecord}
 use Rattle.rules.proofs.Decisions.{not-accepted, passed, went-on}
+use Rattle.rules.proofs.Filled.{equal-take}
 use Rattle.rules.proofs.Lists.{both-true}
 use Rattle.book.specs.declared.Call.{Call}
 use Rattle.book.specs.Says.{Listed, Says}
@@ -78,7 +79,7 @@ module _ (bs : List ℕ) where
   -- a known kind: the call in it, or an unused byte that is not zero
   pub known-read : {kind : Kind} {size : ℕ} {good : Bool} {law : LawCall} {r : Reading} (call : Call) → (isWhole bs ≡ true) × (marked bs ≡ true)
       → kindOf (byteAt bs 2) ≡ kind → size ≡ sizeOf (kindOf (byteAt bs 2)) → good ≡ unusedBytesZero kind bs → callIn kind bs ≡ accept law
-      → (unusedBytesZero kind bs ≡ true → Says call (part 16 placesPerJob bs) law) → r ≡ cond good (Read (byteAt bs 2) size call) Damaged
+      → (unusedBytesZero kind bs ≡ true → Says call (part 16 placesPerJob bs) [] law) → r ≡ cond good (Read (byteAt bs 2) size call) Damaged
       → Reads r (part 16 placesPerJob bs) (readRecord bs)
   unfolding isWhole readRecord
   known-read {kind} {size} {good} {law} call t k s g c says d =
@@ -109,12 +110,6 @@ zeros (suc n) k bs l h =
     let b = both-true {a = eqb (byteAt bs k) 0} h in
     rw (drop-cons bs k 0 (omega arith), eqb-true (byteAt bs k) 0 (b .0)) (ap (λ (xs : List ℕ). 0 ∷ xs) (zeros n (suc k) bs (omega arith) (b .1)))
 
--- the first of so many zeros
-pub zeros-take : (k n : ℕ) → k ≤ n → take {A = ℕ} k (replicate n 0) ≡ replicate k 0
-zeros-take zero n h = refl
-zeros-take (suc k) zero h = absurd (omega arith)
-zeros-take (suc k) (suc n) h = ap (λ (xs : List ℕ). 0 ∷ xs) (zeros-take k n (omega arith))
-
 -- n places whose list has zeros behind it are the list, with any zeros behind it
 held : (n k len w r : ℕ) (bs : List ℕ) → k + n ≤ length bs → n ≤ w → zeroed (k + len) (n - len) bs ≡ true
     → part k n bs ≡ take n (take len (part k n bs ++ replicate r 0) ++ replicate w 0)
@@ -122,7 +117,7 @@ unfolding part
 held zero k len w r bs l h z = refl
 held (suc n) k zero w r bs l h z =
     let e : suc n - 0 ≡ suc n = omega arith in
-    rw (zeros (suc n) k bs l (rw (add-zero, e) at z)) (sym (zeros-take (suc n) w h))
+    rw (zeros (suc n) k bs l (rw (add-zero, e) at z)) (sym (equal-take (suc n) w 0 h))
 held (suc n) k (suc len) w r bs l h z =
     let e : k + suc len ≡ suc k + len = omega arith in
     let f : suc n - suc len ≡ n - len = omega arith in

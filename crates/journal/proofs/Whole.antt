@@ -11,12 +11,15 @@ use lib.Seq.{take-length}
 use Rattle.rules.specs.Basics.{sum}
 use Rattle.rules.specs.Machine.{Machine, nodeCount, pageTableOk}
 use Rattle.rules.specs.Records.{wordsPerJob, mostJobs, jobTableOk}
+use Rattle.rules.specs.Maps.{mapTableOk, identityMaps}
 use Rattle.rules.specs.Decisions.{refuse, accept, written}
-use Rattle.rules.specs.Calls.{Tables, tablesOf, requestTablesOk}
+use Rattle.rules.specs.Calls.{Tables, tablesOf, jobsOk, requestTablesOk}
 use Rattle.rules.specs.Journal.{journalPages, faulty, machineIn, startOf, opening, journal, writeJournal}
+use Rattle.rules.proofs.Filled.{equal-take}
+use Rattle.rules.proofs.Machine.{in-order}
 use Rattle.journal.specs.Opening.{Opened}
 use Rattle.journal.specs.Parts.{answerSize, runOf, Passed, putInto, onPart}
-use Rattle.journal.proofs.Records.{zeros-take}
+use Rattle.journal.proofs.IdentityMaps.{identity-long}
 use Rattle.journal.proofs.MachineRecord.{good-opening}
 use Rattle.journal.proofs.Answers.{fault-length}
 use Rattle.journal.proofs.Parts.{last-part}
@@ -24,22 +27,30 @@ use Rattle.journal.proofs.BookRun.{journal-refused}
 
 -- ---- the start
 
--- "64 fresh jobs", as many free pages as there are pages, and these counted
-pub start-lent : (m : Machine) {pages jobs free : List ℕ} {total : ℕ} → pages ≡ replicate journalPages 0 → jobs ≡ replicate (wordsPerJob * mostJobs) 0
-    → free ≡ m .pageCounts → total ≡ sum (m .pageCounts) → sum (m .pageCounts) ≤ journalPages → tablesOf (take total pages) jobs free ≡ startOf m
+-- "64 fresh jobs", as many free pages as there are pages, these counted, and "map 0 to N-1"
+pub start-lent : (m : Machine) {pages jobs free maps : List ℕ} {total n : ℕ} → pages ≡ replicate journalPages 0
+    → jobs ≡ replicate (wordsPerJob * mostJobs) 0 → free ≡ m .pageCounts → maps ≡ identityMaps n mostJobs → n ≡ nodeCount m
+    → total ≡ sum (m .pageCounts) → sum (m .pageCounts) ≤ journalPages → tablesOf (take total pages) jobs free maps ≡ startOf m
 unfolding startOf
-start-lent m p q f e few = rw (p, q, f, e, zeros-take (sum (m .pageCounts)) journalPages few)
+start-lent m p q f r k e few = rw (p, q, f, r, k, e, equal-take (sum (m .pageCounts)) journalPages 0 few)
 
 -- they are in order
 pub start-ok : (bs : List ℕ) {k : ℕ} {t : Tables} → opening bs ≡ accept k → t ≡ startOf (machineIn bs) → Opened bs t
-unfolding requestTablesOk startOf pageTableOk jobTableOk
+unfolding requestTablesOk startOf pageTableOk jobsOk jobTableOk mapTableOk
 start-ok bs v q =
     let g = good-opening bs v in
     let s = sum (machineIn bs .pageCounts) in
     let n = nodeCount (machineIn bs) in
     record {
       good = v ∙ ap (λ (k : ℕ). accept k) (g .size);
-      tables = rw (q, g .in-order, length-replicate {A = ℕ} s 0, le-leb s s (omega arith), eq-eqb n n refl);
+      tables = rw (
+        q,
+        g .in-order,
+        length-replicate {A = ℕ} s 0,
+        le-leb s s (omega arith),
+        identity-long n (in-order _ (g .in-order) .counts .nodesMost) mostJobs,
+        eq-eqb n n refl,
+      );
     }
 
 -- ---- the records

@@ -2,7 +2,7 @@
 use Prim.Native.Nat.{ℕ}
 use mathlib.Core.Path.{_≡_}
 use mathlib.Core.Bool.{Bool}
-use mathlib.Core.List.{List}
+use mathlib.Core.List.{List, []}
 use lib.Dec.{eqb}
 use Rattle.rules.specs.Basics.{all, from}
 use Rattle.rules.specs.Decisions.{Decision, refuse, accept}
@@ -13,10 +13,10 @@ use Rattle.book.specs.Says.{Says}
 use Rattle.journal.specs.declared.record.Reading.{Reading}
 use Rattle.journal.specs.declared.record.Reading.the-variants.{Entry as Read, Damaged}
 
--- A good record: what is read of it stands for the entry of the rules.
+-- A good record: what is read of it stands for the entry of the rules. No record has a list for a map.
 pub record Good (kind size : ℕ) (call : Call) (places : List ℕ) (d : Decision Entry) : Type 0 where
   pub law : LawCall
-  pub says : Says call places law
+  pub says : Says call places [] law
   pub is : d ≡ accept (record { kind = kind; size = size; call = law })
 
 -- what is read of a record, with the places beside it, stands for what the rules read

@@ -45,11 +45,12 @@ fn run_record(
     pages: &mut [u8],
     jobs: &mut [u64],
     free: &mut [u32],
+    maps: &mut [u8],
     input: &[u8],
     output: &mut [u8],
 ) -> Part
-    requires { ⌜ (requestTablesOk (machineOf (now counts) (now cpus) (now distances)) (tablesOf (now pages) (now jobs) (now free)) ≡ true) × Starts (now counts) (now starts) × (answerSize ≤ length (now output)) × Hints (now counts) (now pages) (now hints) ⌝ }
-    ensures did { λ r. ⌜ passed r (tablesOf (now (pages .exit)) (now (jobs .exit)) (now (free .exit))) (now (output .exit)) ≡ putInto (now (output .entry)) (oneRecord (machineOf (now (counts .entry)) (now (cpus .entry)) (now (distances .entry))) (tablesOf (now (pages .entry)) (now (jobs .entry)) (now (free .entry))) (now (input .entry))) ⌝ }
+    requires { ⌜ (requestTablesOk (machineOf (now counts) (now cpus) (now distances)) (tablesOf (now pages) (now jobs) (now free) (now maps)) ≡ true) × Starts (now counts) (now starts) × (answerSize ≤ length (now output)) × Hints (now counts) (now pages) (now hints) ⌝ }
+    ensures did { λ r. ⌜ passed r (tablesOf (now (pages .exit)) (now (jobs .exit)) (now (free .exit)) (now (maps .exit))) (now (output .exit)) ≡ putInto (now (output .entry)) (oneRecord (machineOf (now (counts .entry)) (now (cpus .entry)) (now (distances .entry))) (tablesOf (now (pages .entry)) (now (jobs .entry)) (now (free .entry)) (now (maps .entry))) (now (input .entry))) ⌝ }
     ensures kept { λ r. ⌜ Hints (now (counts .entry)) (now (pages .exit)) (now (hints .exit)) ⌝ }
 {
     let read = read_record(input);
@@ -65,8 +66,10 @@ fn run_record(
                 pages,
                 jobs,
                 free,
+                maps,
                 call,
                 places,
+                &input[..0],
             );
             let bytes = line(kind, answer);
             Part {
@@ -103,12 +106,13 @@ fn run_records(
     pages: &mut [u8],
     jobs: &mut [u64],
     free: &mut [u32],
+    maps: &mut [u8],
     input: &[u8],
     ended: bool,
     output: &mut [u8],
 ) -> Part
-    requires { ⌜ (requestTablesOk (machineOf (now counts) (now cpus) (now distances)) (tablesOf (now pages) (now jobs) (now free)) ≡ true) × Starts (now counts) (now starts) × Hints (now counts) (now pages) (now hints) ⌝ }
-    ensures { λ r. ⌜ passed r (tablesOf (now (pages .exit)) (now (jobs .exit)) (now (free .exit))) (now (output .exit)) ≡ onPart (machineOf (now (counts .entry)) (now (cpus .entry)) (now (distances .entry))) (tablesOf (now (pages .entry)) (now (jobs .entry)) (now (free .entry))) (now (input .entry)) ended (now (output .entry)) ⌝ }
+    requires { ⌜ (requestTablesOk (machineOf (now counts) (now cpus) (now distances)) (tablesOf (now pages) (now jobs) (now free) (now maps)) ≡ true) × Starts (now counts) (now starts) × Hints (now counts) (now pages) (now hints) ⌝ }
+    ensures { λ r. ⌜ passed r (tablesOf (now (pages .exit)) (now (jobs .exit)) (now (free .exit)) (now (maps .exit))) (now (output .exit)) ≡ onPart (machineOf (now (counts .entry)) (now (cpus .entry)) (now (distances .entry))) (tablesOf (now (pages .entry)) (now (jobs .entry)) (now (free .entry)) (now (maps .entry))) (now (input .entry)) ended (now (output .entry)) ⌝ }
 {
     let mut at = 0;
     let mut written = 0;
@@ -122,6 +126,7 @@ fn run_records(
             pages,
             jobs,
             free,
+            maps,
             &input[at..],
             &mut output[written..],
         );
@@ -149,12 +154,13 @@ pub fn run_part(
     pages: &mut [u8],
     jobs: &mut [u64],
     free: &mut [u32],
+    maps: &mut [u8],
     input: &[u8],
     ended: bool,
     output: &mut [u8],
 ) -> Part
-    requires { ⌜ Opened (now opening) (tablesOf (now pages) (now jobs) (now free)) ⌝ }
-    ensures { λ r. ⌜ passed r (tablesOf (now (pages .exit)) (now (jobs .exit)) (now (free .exit))) (now (output .exit)) ≡ onPart (machineIn (now (opening .entry))) (tablesOf (now (pages .entry)) (now (jobs .entry)) (now (free .entry))) (now (input .entry)) ended (now (output .entry)) ⌝ }
+    requires { ⌜ Opened (now opening) (tablesOf (now pages) (now jobs) (now free) (now maps)) ⌝ }
+    ensures { λ r. ⌜ passed r (tablesOf (now (pages .exit)) (now (jobs .exit)) (now (free .exit)) (now (maps .exit))) (now (output .exit)) ≡ onPart (machineIn (now (opening .entry))) (tablesOf (now (pages .entry)) (now (jobs .entry)) (now (free .entry)) (now (maps .entry))) (now (input .entry)) ended (now (output .entry)) ⌝ }
 {
     let n = byte_at(opening, 3);
     let all = page_counts(opening);
@@ -172,6 +178,7 @@ pub fn run_part(
         pages,
         jobs,
         free,
+        maps,
         input,
         ended,
         output,

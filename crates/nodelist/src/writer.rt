@@ -13,17 +13,17 @@ ghost use Rattle.rules.specs.Text.{textOf};
 use nodemask::Mask;
 use rules::Decision;
 use rules::MOST_NODES;
-use rules::Node;
 use rules::Refusal;
+use rules::SysNode;
 
 // A run of nodes from low to high, if there is one.
 pub enum NextRun {
-    Run(Node, Node),
+    Run(SysNode, SysNode),
     Nothing,
 }
 
 // The first run of a mask from a node on.
-fn next_run(mask: Mask, from: Node) -> NextRun
+fn next_run(mask: Mask, from: SysNode) -> NextRun
     requires { ⌜ from .0 < mostNodes ⌝ }
     ensures { λ r. ⌜ FirstFrom (mask .0) (from .0) r ⌝ }
 {
@@ -33,7 +33,7 @@ fn next_run(mask: Mask, from: Node) -> NextRun
     }
     let low = from.0 + (u64::trailing_zeros(above) as u8);
     let ones = u64::trailing_zeros(!(mask.0 >> low)) as u8;
-    NextRun::Run(Node(low), Node(low + ones - 1))
+    NextRun::Run(SysNode(low), SysNode(low + ones - 1))
 }
 
 // A number put into a line at an index: the index after it.
@@ -52,7 +52,7 @@ fn put_number(line: &mut [u8; 192], at: usize, n: usize) -> usize
 }
 
 // A comma and a run put into a line at an index: the index after them.
-fn put_run(line: &mut [u8; 192], at: usize, low: Node, high: Node) -> usize
+fn put_run(line: &mut [u8; 192], at: usize, low: SysNode, high: SysNode) -> usize
     requires { ⌜ (low .0 ≤ high .0) × (high .0 < mostNodes) × (at + length (lineRun (runOf (low .0) (high .0))) ≤ lineBytes) ⌝ }
     ensures end { λ r. ⌜ r ≡ at + length (lineRun (runOf (low .0) (high .0))) ⌝ }
     ensures put { λ _. ⌜ now (line .exit) ≡ sets (now (line .entry)) at (lineRun (runOf (low .0) (high .0))) ⌝ }
@@ -75,7 +75,7 @@ fn put_runs(line: &mut [u8; 192], mask: Mask) -> usize
     let mut len = 0;
     let mut at: u8 = 0;
     while (at as usize) < MOST_NODES {
-        let run = next_run(mask, Node(at));
+        let run = next_run(mask, SysNode(at));
         match run {
             NextRun::Run(low, high) => {
                 len = put_run(line, len, low, high);

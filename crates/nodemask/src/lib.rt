@@ -3,12 +3,12 @@
 ghost use mathlib.Core.Path.{_≡_};
 ghost use Prim.Native.Nat.{_-_, _^_, _<_, _≤_};
 ghost use Rattle.rules.specs.Machine.{nodesOk};
-ghost use Rattle.rules.specs.Masks.{mostNodes, bit, has, isEmpty, below, allNodes, both, within, insert, rank, size, lowest, folded, remapped};
+ghost use Rattle.rules.specs.Masks.{mostNodes, has, isEmpty, below, allNodes, both, either, within, insert, rank, size, lowest, folded, remapped};
 ghost use Rattle.rules.specs.SearchOrder.{target};
 ghost use Rattle.nodemask.specs.Found.{foundNode};
 ghost use Rattle.nodemask.specs.Ranks.{wrapped, ranksIn, rankedIn};
 use rules::MOST_NODES;
-use rules::Node;
+use rules::SysNode;
 
 pub struct Mask(pub u64);
 
@@ -20,7 +20,7 @@ pub struct Ranks(pub u64);
 
 // The node that a search came to, if there is one.
 pub enum Found {
-    At(Node),
+    At(SysNode),
     Nothing,
 }
 
@@ -94,13 +94,21 @@ impl Mask {
     }
 
     // The node is in the mask.
-    pub fn has(self, node: Node) -> bool
+    pub fn has(self, node: SysNode) -> bool
         ensures { λ r. ⌜ r ≡ has (self .0) (node .0) ⌝ }
     {
         if (node.0 as usize) < MOST_NODES {
             return self.0 & (1u64 << node.0) != 0;
         }
         false
+    }
+
+    // The mask with one node more.
+    pub fn insert(self, node: SysNode) -> Mask
+        requires { ⌜ node .0 < mostNodes ⌝ }
+        ensures { λ r. ⌜ r .0 ≡ insert (self .0) (node .0) ⌝ }
+    {
+        Mask(self.0 | (1u64 << node.0))
     }
 
     pub fn is_empty(self) -> bool
@@ -133,6 +141,13 @@ impl Mask {
         Mask(self.0 & other.0)
     }
 
+    // The nodes in one of two masks.
+    pub fn either(self, other: Mask) -> Mask
+        ensures { λ r. ⌜ r .0 ≡ either (self .0) (other .0) ⌝ }
+    {
+        Mask(self.0 | other.0)
+    }
+
     // The nodes below n that are not in the mask.
     pub fn complement(self, n: usize) -> Mask
         requires { ⌜ (n ≤ mostNodes) × (self .0 < 2 ^ n) ⌝ }
@@ -150,7 +165,7 @@ impl Mask {
     }
 
     // The rank of a node: the ones below it.
-    pub fn rank(self, node: Node) -> Rank
+    pub fn rank(self, node: SysNode) -> Rank
         requires { ⌜ node .0 < mostNodes ⌝ }
         ensures { λ r. ⌜ r .0 ≡ rank (self .0) (node .0) ⌝ }
     {
@@ -158,11 +173,11 @@ impl Mask {
     }
 
     // The lowest node: the zeros under the first one.
-    pub fn lowest(self) -> Node
+    pub fn lowest(self) -> SysNode
         requires { ⌜ 0 < self .0 ⌝ }
         ensures { λ r. ⌜ r .0 ≡ lowest mostNodes (self .0) ⌝ }
     {
-        Node(u64::trailing_zeros(self.0) as u8)
+        SysNode(u64::trailing_zeros(self.0) as u8)
     }
 
     // Interleave's target: the first node from the cursor field on, once round.
@@ -176,10 +191,10 @@ impl Mask {
         if (cursor as usize) < MOST_NODES {
             let above = self.0 >> cursor;
             if above != 0 {
-                return Found::At(Node(cursor + (u64::trailing_zeros(above) as u8)));
+                return Found::At(SysNode(cursor + (u64::trailing_zeros(above) as u8)));
             }
         }
-        Found::At(Node(u64::trailing_zeros(self.0) as u8))
+        Found::At(SysNode(u64::trailing_zeros(self.0) as u8))
     }
 
     // The mask without its lowest node.

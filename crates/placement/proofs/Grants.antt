@@ -14,12 +14,14 @@ use lib.Dec.{eqb, eqb·suc-zero}
 use lib.ListN.{length, getD, take, drop, set, length-take, length-drop}
 use lib.Seq.{drop-cons}
 use Rattle.rules.specs.Basics.{keep, first, firstOr, isNil, from, sum}
-use Rattle.rules.specs.Machine.{firstPage, pagesOf}
+use Rattle.rules.specs.Machine.{firstPage, pagesOf, nodeOfPage}
 use Rattle.rules.specs.Records.{recordAt, putRecord, withTurn}
 use Rattle.rules.specs.SearchOrder.{Try, freePages, hasRoom, pickPage, counted, chosen}
-use Rattle.rules.specs.Calls.{granted, refused, Tables, tablesOf, outcome, afterWrites, afterStores, applied, countFits, serve}
+use Rattle.rules.specs.Maps.{applicationNode}
+use Rattle.rules.specs.Calls.{granted, refused, Tables, tablesOf, outcome, afterWrites, afterStores, afterRemaps, applied, mapOf, countFits, serve}
 use Rattle.rules.proofs.Lists.{first-keep, sum-take-suc, sum-take-le}
-use Rattle.rules.proofs.Calls.{in-table}
+use Rattle.rules.proofs.Calls.{in-table, picked-lowest}
+use Rattle.rules.proofs.Pages.{page-node}
 use Rattle.pages.specs.FirstZero.{shift, firstZero, mark}
 use Rattle.pages.proofs.FirstZero.{shift-shift}
 use Rattle.placement.specs.Grants.{Chose}
@@ -127,12 +129,18 @@ module _ (counts ledger : List ℕ) (n : ℕ) where
 module _ (counts : List ℕ) (t : Tables) (j : ℕ) (s : Try) where
   -- it has a free page: the page is marked, the turn stored, the count taken down
   pub grants-page : {p : ℕ} → some p ≡ first (freePages counts (t .ledger) (s .node))
-      → outcome (granted (s .node) p)
+      → outcome (granted (applicationNode (mapOf t j) (s .node)) p)
       (tablesOf (set (t .ledger) p (j + 1)) (putRecord (t .records) j (withTurn (recordAt (t .records) j) (s .turn)))
-      (set (t .free) (s .node) (getD (t .free) (s .node) 0 - 1)))
+      (set (t .free) (s .node) (getD (t .free) (s .node) 0 - 1)) (t .maps))
       ≡ applied t (serve counts t j (some s))
-  unfolding applied serve afterWrites afterStores
+  unfolding applied serve afterWrites afterStores afterRemaps
   grants-page e = let h = first-room counts (t .ledger) (s .node) e in rw (h .0, h .1 j)
+
+  -- the page lies in the node
+  pub page-in-node : {p : ℕ} → some p ≡ first (freePages counts (t .ledger) (s .node)) → s .node ≡ nodeOfPage counts p
+  page-in-node e =
+      let h = first-room counts (t .ledger) (s .node) e in
+      sym (page-node (picked-lowest counts (t .ledger) (s .node) j (h .0) .page .ofNode)) ∙ ap (nodeOfPage counts) (h .1 j)
 
   -- it has none: 14
   pub grants-none : none ≡ first (freePages counts (t .ledger) (s .node)) → outcome (refused 14) t ≡ applied t (serve counts t j (some s))

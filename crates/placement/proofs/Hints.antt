@@ -1,7 +1,7 @@
 -- Laws of the hints: the first pages serve for any page table, and what a grant and a release leave serves for theirs.
 -- Assumes nothing.
 use Prim.Native.Nat.{ℕ, _+_, _≤_, _<_}
-use mathlib.Core.Path.{_≡_, refl, sym, ap, _∙_}
+use mathlib.Core.Path.{_≡_, refl, sym, ap, ap₂, _∙_}
 use mathlib.Core.Bool.{Bool, true, false, cond}
 use mathlib.Core.List.{List}
 use native.Mathlib.Decide.{ℕ-discrete}
@@ -14,7 +14,8 @@ use Rattle.rules.specs.Basics.{sum}
 use Rattle.rules.specs.Machine.{Machine, firstPage, nodeOfPage}
 use Rattle.rules.specs.Masks.{mostNodes}
 use Rattle.rules.specs.Decisions.{Decision, refuse, accept}
-use Rattle.rules.specs.Calls.{Answer, Tables, Change, Outcome, outcome, afterWrites, applied, holds, requestDecision, releaseDecision, onRequest, onRelease}
+use Rattle.rules.specs.Calls.{granted, released, refused, Tables, Change, Outcome, outcome, afterWrites, applied, holds, requestDecision, releaseDecision}
+use Rattle.rules.specs.Calls.{onRequest, onRelease}
 use Rattle.rules.proofs.Admission.{accepted}
 use Rattle.rules.proofs.Calls.{LowestFree, picked-lowest, releases, in-table}
 use Rattle.rules.proofs.Lists.{both-true}
@@ -22,6 +23,9 @@ use Rattle.rules.proofs.Machine.{CountsInOrder}
 use Rattle.rules.proofs.Pages.{PageOf, page-lt, page-node-lt, page-node, node-page}
 use Rattle.machine.specs.Tables.{Starts}
 use Rattle.placement.specs.Hints.{Hints, hinted, Named}
+use Rattle.placement.specs.Placed.{placedAs, InNode}
+use Rattle.placement.specs.declared.placed.Placed.{Placed}
+use Rattle.placement.specs.declared.placed.Placed.the-variants.{Granted, Released, Refused}
 
 -- no page of a node comes before its first one
 pub starts-hint : {counts starts : List ℕ} (ledger : List ℕ) → Starts counts starts → Hints counts ledger starts
@@ -110,41 +114,78 @@ module _ (counts ledger hints : List ℕ) (few : length counts ≤ mostNodes) (h
 
 -- ---- the hints after a call
 
+module _ (counts hints nodes : List ℕ) where
+  -- a refusal leaves them
+  refused-placed : (r : Placed) (q : ℕ) → placedAs nodes r ≡ refused q → (hinted hints r ≡ hints) × Named r
+  refused-placed (Granted n p) q e = absurd (let z : _≡_ {A = ℕ} 0 1 = cc in omega arith)
+  refused-placed (Released n p) q e = absurd (let z : _≡_ {A = ℕ} 0 1 = cc in omega arith)
+  refused-placed (Refused why) q e = (refl, tt)
+
+  -- a grant of page p moves that of the page's node
+  granted-placed : (r : Placed) (a p : ℕ) → InNode counts r → placedAs nodes r ≡ granted a p → nodeOfPage counts p < mostNodes → p < 1048576
+      → (hinted hints r ≡ set hints (nodeOfPage counts p) (p + 1)) × Named r
+  granted-placed (Granted n q) a p here e few small =
+      let page : q .0 ≡ p = cc in
+      let node : n .0 ≡ nodeOfPage counts p = here ∙ ap (nodeOfPage counts) page in
+      (ap₂ (λ (k v : ℕ). set hints k (v + 1)) node page, (rw node few, rw page small))
+  granted-placed (Released n q) a p here e few small = absurd (let z : _≡_ {A = ℕ} 0 1 = cc in omega arith)
+  granted-placed (Refused why) a p here e few small = absurd (let z : _≡_ {A = ℕ} 0 1 = cc in omega arith)
+
+  -- and so may a release
+  released-placed : (r : Placed) (a p : ℕ) → InNode counts r → placedAs nodes r ≡ released a p → nodeOfPage counts p < mostNodes → p < 1048576
+      → (let n = nodeOfPage counts p in hinted hints r ≡ cond (ltb p (getD hints n 0)) (set hints n p) hints) × Named r
+  released-placed (Granted n q) a p here e few small = absurd (let z : _≡_ {A = ℕ} 0 1 = cc in omega arith)
+  released-placed (Released n q) a p here e few small =
+      let page : q .0 ≡ p = cc in
+      let node : n .0 ≡ nodeOfPage counts p = here ∙ ap (nodeOfPage counts) page in
+      (ap₂ (λ (k v : ℕ). cond (ltb v (getD hints k 0)) (set hints k v) hints) node page, (rw node few, rw page small))
+  released-placed (Refused why) a p here e few small = absurd (let z : _≡_ {A = ℕ} 0 1 = cc in omega arith)
+
 module _ (counts : List ℕ) (t : Tables) (hints : List ℕ) (i : CountsInOrder counts) (h : Hints counts (t .ledger) hints) where
   -- a release
-  pub release-hints : (j p : ℕ) {a : Answer} {after : Tables} → outcome a after ≡ onRelease counts t j p
-      → Hints counts (after .ledger) (hinted hints a) × Named a
+  pub release-hints : (j p : ℕ) (r : Placed) (nodes : List ℕ) {after : Tables} → InNode counts r → outcome (placedAs nodes r) after ≡ onRelease counts t j p
+      → Hints counts (after .ledger) (hinted hints r) × Named r
   unfolding onRelease applied afterWrites holds
-  release-hints j p {a} {after} e = go (releaseDecision counts t j p) refl e
+  release-hints j p r nodes {after} here e = go (releaseDecision counts t j p) refl e
     where
-      go : (d : Decision Change) → releaseDecision counts t j p ≡ d → outcome a after ≡ applied t d
-          → Hints counts (after .ledger) (hinted hints a) × Named a
-      go (refuse r) f e = rw (ap (λ (o : Outcome). o .answer) e, ap (λ (o : Outcome). o .tables) e) (h, tt)
+      go : (d : Decision Change) → releaseDecision counts t j p ≡ d → outcome (placedAs nodes r) after ≡ applied t d
+          → Hints counts (after .ledger) (hinted hints r) × Named r
+      go (refuse q) f e =
+          let s = refused-placed counts hints nodes r q (ap (λ (o : Outcome). o .answer) e) in
+          (rw (s .0, ap (λ (o : Outcome). o .tables) e) h, s .1)
       go (accept x) f e =
           let s = releases counts t j p f in
           let there : p < sum counts = ltb-true p (sum counts) (both-true {a = ltb p (sum counts)} (s .0 .held) .0) in
           let o = node-page counts p there in
-          rw (ap (λ (o : Outcome). o .answer) e, ap (λ (o : Outcome). o .tables) e, s .1) (
-            released-hint counts (t .ledger) hints (i .nodesMost) h p there,
-            (omega (arith, page-node-lt o, i .nodesMost), omega (arith, there, i .pagesMost)),
-          )
+          let told : placedAs nodes r ≡ released _ p = ap (λ (o : Outcome). o .answer) e ∙ ap (λ (x : Change). x .answer) (s .1) in
+          let w = released-placed counts hints nodes r _ p here told (omega (arith, page-node-lt o, i .nodesMost)) (omega (arith, there, i .pagesMost)) in
+          (rw (w .0, ap (λ (o : Outcome). o .tables) e, s .1) (released-hint counts (t .ledger) hints (i .nodesMost) h p there), w .1)
 
 module _ (m : Machine) (t : Tables) (hints : List ℕ) (i : CountsInOrder (m .pageCounts))
     (h : Hints (m .pageCounts) (t .ledger) hints) where
   -- a request
-  pub request-hints : (j k : ℕ) {a : Answer} {after : Tables} → outcome a after ≡ onRequest m t j k
-      → Hints (m .pageCounts) (after .ledger) (hinted hints a) × Named a
+  pub request-hints : (j k : ℕ) (r : Placed) (nodes : List ℕ) {after : Tables} → InNode (m .pageCounts) r
+      → outcome (placedAs nodes r) after ≡ onRequest m t j k → Hints (m .pageCounts) (after .ledger) (hinted hints r) × Named r
   unfolding onRequest applied afterWrites
-  request-hints j k {a} {after} e = go (requestDecision m t j k) refl e
+  request-hints j k r nodes {after} here e = go (requestDecision m t j k) refl e
     where
-      go : (d : Decision Change) → requestDecision m t j k ≡ d → outcome a after ≡ applied t d
-          → Hints (m .pageCounts) (after .ledger) (hinted hints a) × Named a
-      go (refuse r) f e = rw (ap (λ (o : Outcome). o .answer) e, ap (λ (o : Outcome). o .tables) e) (h, tt)
+      counts : List ℕ
+      counts = m .pageCounts
+
+      go : (d : Decision Change) → requestDecision m t j k ≡ d → outcome (placedAs nodes r) after ≡ applied t d
+          → Hints (m .pageCounts) (after .ledger) (hinted hints r) × Named r
+      go (refuse q) f e =
+          let s = refused-placed counts hints nodes r q (ap (λ (o : Outcome). o .answer) e) in
+          (rw (s .0, ap (λ (o : Outcome). o .tables) e) h, s .1)
       go (accept x) f e =
           let s = accepted m t j k f in
-          let low = picked-lowest (m .pageCounts) (t .ledger) (s .1 .node) j (s .3) in
+          let low = picked-lowest counts (t .ledger) (s .1 .node) j (s .3) in
           let o = low .page .ofNode in
-          rw (ap (λ (o : Outcome). o .answer) e, ap (λ (o : Outcome). o .tables) e, s .4) (
-            granted-hint (m .pageCounts) (t .ledger) hints (i .nodesMost) h (s .1 .node) _ (j + 1) low (omega arith),
-            (omega (arith, page-node-lt o, i .nodesMost), omega (arith, page-lt o, i .pagesMost)),
-          )
+          let node = page-node o in
+          let told : placedAs nodes r ≡ granted _ _ = ap (λ (o : Outcome). o .answer) e ∙ ap (λ (x : Change). x .answer) (s .4) in
+          let w =
+          granted-placed counts hints nodes r _ _ here told (omega (arith, node, page-node-lt o, i .nodesMost))
+          (omega (arith, page-lt o, i .pagesMost)) in
+          let left : after .ledger ≡ afterWrites (t .ledger) (x .writes) = ap (λ (o : Outcome). o .tables .ledger) e in
+          let marked = left ∙ ap (λ (x : Change). afterWrites (t .ledger) (x .writes)) (s .4) in
+          (rw (w .0, marked, node) (granted-hint counts (t .ledger) hints (i .nodesMost) h (s .1 .node) _ (j + 1) low (omega arith)), w .1)

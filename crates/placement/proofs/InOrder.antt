@@ -11,9 +11,9 @@ use lib.ListN.{length}
 use Rattle.rules.specs.Basics.{all, sum}
 use Rattle.rules.specs.Machine.{Machine, nodeCount, nodesOk, pagesOk, pageTableOk, machineOk}
 use Rattle.rules.specs.Records.{wordsPerJob, mostJobs, jobCount, jobTableOk}
-use Rattle.rules.specs.Calls.{Tables, isJob, freeOk, requestTablesOk, freshTablesOk, releaseTablesOk, recordTablesOk}
+use Rattle.rules.specs.Calls.{Tables, isJob, freeOk, jobsOk, requestTablesOk, freshTablesOk, releaseTablesOk, mappedTablesOk}
 use Rattle.rules.proofs.Lists.{both-true}
-use Rattle.rules.proofs.InOrder.{pages-in-order, fresh-ok}
+use Rattle.rules.proofs.InOrder.{pages-in-order, fresh-ok, jobs-ok}
 use Rattle.machine.proofs.Tables.{counts-tested}
 use Rattle.machine.specs.Tables.{Starts}
 use Rattle.placement.specs.Grants.{Ready}
@@ -26,16 +26,17 @@ last-two true true false = refl
 last-two true false true = refl
 last-two true false false = refl
 
--- of a machine in order, with so many pages, the page table, the free counts and the job table are left to test
+-- of a machine in order, with so many pages, the page table, the free counts, the job table and the maps are left to test
 pub request-tested : (m : Machine) (t : Tables) {total : ℕ} → total ≡ sum (m .pageCounts) → machineOk m ≡ true
-    → (leb total (length (t .ledger)) && freeOk (nodeCount m) (length (t .free)) && recordTablesOk (nodeCount m) (length (t .records)))
+    → (leb total (length (t .ledger)) && freeOk (nodeCount m) (length (t .free))
+    && mappedTablesOk (nodeCount m) (length (t .records)) (length (t .maps)))
     ≡ requestTablesOk m t
-unfolding requestTablesOk recordTablesOk machineOk pageTableOk
+unfolding requestTablesOk mappedTablesOk machineOk pageTableOk
 request-tested m t {total} e h =
     let a = both-true h in
     let b = both-true (a .0) in
     let n = both-true {a = nodesOk (nodeCount m)} {b = pagesOk (m .pageCounts)} (b .0) in
-    rw (e, n .0, n .1, b .1, a .1) (last-two (leb (sum (m .pageCounts)) (length (t .ledger))) (jobTableOk (length (t .records))) _)
+    rw (e, n .0, n .1, b .1, a .1) (last-two (leb (sum (m .pageCounts)) (length (t .ledger))) (jobsOk (length (t .records)) (length (t .maps))) _)
 
 -- of one that is not, nothing is
 pub request-untested : (m : Machine) (t : Tables) → machineOk m ≡ false → requestTablesOk m t ≡ false
@@ -48,15 +49,17 @@ pub fresh-tested : (counts : List ℕ) (bytes entries : ℕ) {total : ℕ} → t
 unfolding freshTablesOk pageTableOk
 fresh-tested counts bytes entries e h = rw (e, h)
 
--- and for a release, where each count is in order, the number of all pages and the job table too
+-- and for a release, where each count is in order, the number of all pages, the job table and the maps too
 pub release-tested : (counts : List ℕ) (t : Tables) {total : ℕ} → total ≡ sum counts → (nodesOk (length counts) && all (λ c. leb c 65536) counts) ≡ true
     → (leb total 1048576
-    && (leb total (length (t .ledger)) && freeOk (length counts) (length (t .free)) && recordTablesOk (length counts) (length (t .records))))
+    && (leb total (length (t .ledger)) && freeOk (length counts) (length (t .free))
+    && mappedTablesOk (length counts) (length (t .records)) (length (t .maps))))
     ≡ releaseTablesOk counts t
-unfolding releaseTablesOk freshTablesOk recordTablesOk pageTableOk
+unfolding releaseTablesOk freshTablesOk mappedTablesOk pageTableOk
 release-tested counts t {total} e h =
     rw (e, ← counts-tested counts h, both-true {a = nodesOk (length counts)} h .0)
-    (go (leb (sum counts) 1048576) (leb (sum counts) (length (t .ledger))) (freeOk (length counts) (length (t .free))) (jobTableOk (length (t .records))))
+    (go (leb (sum counts) 1048576) (leb (sum counts) (length (t .ledger))) (freeOk (length counts) (length (t .free)))
+    (jobsOk (length (t .records)) (length (t .maps))))
   where
     go : (a b f w : Bool) → (a && (b && f && w)) ≡ (a && b && f && w)
     go false b f w = refl
@@ -64,11 +67,11 @@ release-tested counts t {total} e h =
 
 -- a job of the table is one of the few that there may be
 pub job-few : (counts : List ℕ) (t : Tables) (j : ℕ) → releaseTablesOk counts t ≡ true → isJob (t .records) j ≡ true → j < mostJobs
-unfolding releaseTablesOk jobTableOk
+unfolding jobsOk jobTableOk
 job-few counts t j ok known =
     let jobs = jobCount (length (t .records)) in
-    let a = both-true {a = freshTablesOk counts (length (t .ledger)) (length (t .free))} {b = jobTableOk (length (t .records))} ok in
-    let few = both-true {a = leb 1 jobs} {b = leb jobs mostJobs} (both-true {a = eqb (length (t .records) % wordsPerJob) 0} (a .1) .1) in
+    let a = both-true {a = jobTableOk (length (t .records))} (jobs-ok counts t ok) in
+    let few = both-true {a = leb 1 jobs} {b = leb jobs mostJobs} (both-true {a = eqb (length (t .records) % wordsPerJob) 0} (a .0) .1) in
     lt-of-lt-of-le (ltb-true j jobs known) (leb-true jobs mostJobs (few .1))
 
 -- what a grant may count on

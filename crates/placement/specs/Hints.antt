@@ -8,7 +8,8 @@ use lib.Dec.{ltb}
 use lib.ListN.{length, getD, set}
 use Rattle.rules.specs.Machine.{firstPage}
 use Rattle.rules.specs.Masks.{mostNodes}
-use Rattle.rules.specs.Calls.{Answer, granted, released, done, refused}
+use Rattle.placement.specs.declared.placed.Placed.{Placed}
+use Rattle.placement.specs.declared.placed.Placed.the-variants.{Granted, Released, Refused}
 
 -- a table of hints for a page table
 pub record Hints (counts ledger hints : List ℕ) : Type 0 where
@@ -17,16 +18,14 @@ pub record Hints (counts ledger hints : List ℕ) : Type 0 where
   pub last : (n : ℕ) → n < length counts → getD hints n 0 ≤ firstPage counts n + getD counts n 0
   pub held : (n p : ℕ) → n < length counts → firstPage counts n ≤ p → p < getD hints n 0 → 0 < getD ledger p 1
 
--- the hints after an answer: the lowest free page of its node was granted, or a page was released
-abbrev pub hinted : List ℕ → Answer → List ℕ
-hinted hints (granted n p) = set hints n (p + 1)
-hinted hints (released n p) = cond (ltb p (getD hints n 0)) (set hints n p) hints
-hinted hints done = hints
-hinted hints (refused r) = hints
+-- the hints after a page is placed: the lowest free page of its node was granted, or a page was released
+abbrev pub hinted : List ℕ → Placed → List ℕ
+hinted hints (Granted n p) = set hints (n .0) (p .0 + 1)
+hinted hints (Released n p) = cond (ltb (p .0) (getD hints (n .0) 0)) (set hints (n .0) (p .0)) hints
+hinted hints (Refused why) = hints
 
--- an answer names a node and a page that a machine may have
-abbrev pub Named : Answer → Type 0
-Named (granted n p) = (n < mostNodes) × (p < 1048576)
-Named (released n p) = (n < mostNodes) × (p < 1048576)
-Named done = Unit {0}
-Named (refused r) = Unit {0}
+-- node and page are such as a machine may have
+abbrev pub Named : Placed → Type 0
+Named (Granted n p) = (n .0 < mostNodes) × (p .0 < 1048576)
+Named (Released n p) = (n .0 < mostNodes) × (p .0 < 1048576)
+Named (Refused why) = Unit {0}

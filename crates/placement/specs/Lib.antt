@@ -3,3 +3,4 @@ pub mod Searches
 pub mod Grants
 pub mod Hints
 pub mod Admissions
+pub mod Placed

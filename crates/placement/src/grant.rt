@@ -1,26 +1,27 @@
 // A grant by the node that a search has chosen: "grants its lowest free page".
 
 ghost use mathlib.Core.Bool.{true};
+ghost use mathlib.Core.List.{List};
 ghost use mathlib.Core.Option.{some};
 ghost use mathlib.Core.Path.{_≡_};
-ghost use Prim.Native.Nat.{_+_, _<_};
+ghost use Prim.Native.Nat.{ℕ, _+_, _<_};
 ghost use lib.ListN.{length};
 ghost use Rattle.rules.specs.Basics.{first};
 ghost use Rattle.rules.specs.SearchOrder.{try, freePages};
-ghost use Rattle.rules.specs.Calls.{tablesOf, outcome, applied, isJob, serve};
-ghost use Rattle.rules.specs.Answers.{answerOf};
+ghost use Rattle.rules.specs.Calls.{tablesOf, outcome, applied, mapOf, isJob, serve};
 ghost use Rattle.pages.specs.FirstZero.{mark};
 ghost use Rattle.records.specs.Jobs.{turnOf};
 ghost use Rattle.placement.specs.Grants.{pageBy, Ready, Chose};
 ghost use Rattle.placement.specs.Hints.{Hints};
+ghost use Rattle.placement.specs.Placed.{placedAs, InNode};
+use super::placed::Placed;
 use pages;
 use pages::Found;
 use records::table;
-use rules::Answer;
 use rules::MOST_NODES;
-use rules::Node;
 use rules::Page;
 use rules::Refusal;
+use rules::SysNode;
 
 // The page that is marked, if the node has a free one.
 pub enum Marked {
@@ -34,7 +35,7 @@ fn mark_page(
     starts: &[u32; MOST_NODES + 1],
     hints: &[u32; MOST_NODES + 1],
     pages: &mut [u8],
-    node: Node,
+    node: SysNode,
     job: u8,
 ) -> Marked
     requires { ⌜ Ready (now counts) (now starts) (now pages) job × (node .0 < length (now counts)) × Hints (now counts) (now pages) (now hints) ⌝ }
@@ -61,11 +62,12 @@ pub fn grant_node(
     jobs: &mut [u64],
     free: &mut [u32],
     job: usize,
-    node: Node,
+    node: SysNode,
     cursor: u8,
-) -> Answer
+) -> Placed
     requires { ⌜ Ready (now counts) (now starts) (now pages) job × (isJob (now jobs) job ≡ true) × Chose (now counts) (now free) (node .0) × Hints (now counts) (now pages) (now hints) ⌝ }
-    ensures { λ r. ⌜ outcome (answerOf r) (tablesOf (now (pages .exit)) (now (jobs .exit)) (now (free .exit))) ≡ applied (tablesOf (now (pages .entry)) (now (jobs .entry)) (now (free .entry))) (serve (now (counts .entry)) (tablesOf (now (pages .entry)) (now (jobs .entry)) (now (free .entry))) job (some (try (turnOf cursor) (node .0)))) ⌝ }
+    ensures did { λ r. ⌜ ((maps : List ℕ) → outcome (placedAs (mapOf (tablesOf (now (pages .entry)) (now (jobs .entry)) (now (free .entry)) maps) job) r) (tablesOf (now (pages .exit)) (now (jobs .exit)) (now (free .exit)) maps) ≡ applied (tablesOf (now (pages .entry)) (now (jobs .entry)) (now (free .entry)) maps) (serve (now (counts .entry)) (tablesOf (now (pages .entry)) (now (jobs .entry)) (now (free .entry)) maps) job (some (try (turnOf cursor) (node .0))))) ⌝ }
+    ensures found { λ r. ⌜ InNode (now (counts .entry)) r ⌝ }
 {
     let marked = mark_page(counts, starts, hints, pages, node, job as u8);
     match marked {
@@ -73,8 +75,8 @@ pub fn grant_node(
             let n = node.0 as usize;
             free[n] = free[n] - 1;
             table::store_cursor(jobs, job, cursor);
-            Answer::Granted(node, page)
+            Placed::Granted(node, page)
         }
-        Marked::Full => Answer::Refused(Refusal::WrongCount),
+        Marked::Full => Placed::Refused(Refusal::WrongCount),
     }
 }

@@ -1,33 +1,43 @@
 // Requests and releases of single pages, and the fresh table: document 01, "Search order" and "Refusal numbers", and request M-100.
 
 ghost use mathlib.Core.Bool.{true, _&&_};
+ghost use mathlib.Core.List.{List};
 ghost use mathlib.Core.Path.{_≡_};
-ghost use Prim.Native.Nat.{_<_};
+ghost use Prim.Native.Nat.{ℕ, _<_};
 ghost use lib.Dec.{leb};
 ghost use lib.ListN.{length, replicate};
 ghost use Rattle.rules.specs.Basics.{sum};
 ghost use Rattle.rules.specs.Machine.{nodeOfPage};
+ghost use Rattle.rules.specs.Masks.{both};
+ghost use Rattle.rules.specs.Records.{mostJobs, jobCount, recordAt};
 ghost use Rattle.rules.specs.SearchOrder.{plan, order, chosen};
-ghost use Rattle.rules.specs.Calls.{Tables, tablesOf, withPages, outcome, applied, isJob, freeOk, freshTablesOk, requestTablesOk, releaseTablesOk, recordTablesOk, admitted, serve, onRequest, onRelease, onFresh};
+ghost use Rattle.rules.specs.Calls.{Tables, tablesOf, withPages, outcome, applied, mapOf, isJob, freeOk, freshTablesOk, requestTablesOk, releaseTablesOk, mappedTablesOk, admitted, limitOf, serve, onRequest, onRelease, onFresh};
 ghost use Rattle.rules.specs.Answers.{answerOf};
 ghost use Rattle.machine.specs.Tables.{machineOf, Starts};
 ghost use Rattle.records.specs.Jobs.{recordOf};
-ghost use Rattle.placement.specs.Admissions.{admissionOf};
+ghost use Rattle.placement.specs.Admissions.{admissionOf, LimitIs, admitTests};
 ghost use Rattle.placement.specs.Searches.{Searchable};
 ghost use Rattle.placement.specs.Grants.{Ready};
 ghost use Rattle.placement.specs.Hints.{Hints};
+ghost use Rattle.placement.specs.Placed.{placedAs, InNode, releaseTests};
 use machine;
 use machine::Located;
+use maps::judging;
+use maps::judging::Judged;
+use maps::turning;
+use nodemask::Mask;
+use placed::Placed;
 use records::record::Record;
 use records::table;
 use rules::Answer;
 use rules::MOST_NODES;
-use rules::Node;
 use rules::Page;
 use rules::Refusal;
+use rules::SysNode;
 use search::Chosen;
 
 pub mod grant;
+pub mod placed;
 pub mod plan;
 pub mod search;
 
@@ -40,22 +50,53 @@ fn pages_ok(nodes: usize, total: usize, bytes: usize, entries: usize) -> bool
     (total <= bytes) & (entries == nodes)
 }
 
-// And the job table too?
-pub fn lent_ok(nodes: usize, total: usize, bytes: usize, words: usize, entries: usize) -> bool
-    ensures { λ r. ⌜ r ≡ (leb total bytes && freeOk nodes entries && recordTablesOk nodes words) ⌝ }
+// And the job table and the maps too?
+pub fn lent_ok(
+    nodes: usize,
+    total: usize,
+    bytes: usize,
+    words: usize,
+    entries: usize,
+    maps: usize,
+) -> bool
+    ensures { λ r. ⌜ r ≡ (leb total bytes && freeOk nodes entries && mappedTablesOk nodes words maps) ⌝ }
 {
-    pages_ok(nodes, total, bytes, entries) & table::tables_ok(nodes, words)
+    pages_ok(nodes, total, bytes, entries) & table::mapped_ok(nodes, words, maps)
 }
 
 // ---- request
 
-// What a request's tests before the search come to: the record that it goes by, or a refusal.
+// What a request's tests before the search come to: the record that it goes by and the nodes that the job may get, or a refusal.
 pub enum Admission {
-    Passed(Record),
+    Passed(Record, Mask),
     Refused(Refusal),
 }
 
-// "Order: request 1, 2, 3, 4": the tests before the search, on tables that are in order.
+// "3, 4": the tests that are left for a job with a good map, whose nodes are this set.
+fn admit_mapped(
+    nodes: usize,
+    cpus: usize,
+    jobs: &[u64],
+    set: Mask,
+    job: usize,
+    cpu: usize,
+) -> Admission
+    requires { ⌜ job < jobCount (length (now jobs)) ⌝ }
+    ensures tested { λ r. ⌜ admissionOf r ≡ admitTests nodes cpus cpu (recordAt (now (jobs .entry)) job) ⌝ }
+    ensures limit { λ r. ⌜ LimitIs (both (recordAt (now (jobs .entry)) job .allowed) (set .0)) r ⌝ }
+{
+    if cpu >= cpus {
+        return Admission::Refused(Refusal::NoSuchCpu);
+    }
+    let record = table::load(jobs, job);
+    if !record.well_formed(nodes) {
+        return Admission::Refused(Refusal::MalformedRecord);
+    }
+    let limit = record.allowed.both(set);
+    Admission::Passed(record, limit)
+}
+
+// "Order: request 1, 2", 15, "3, 4": the tests before the search, on tables that are in order.
 pub fn admit(
     counts: &[u32],
     cpus: &[u8],
@@ -63,24 +104,24 @@ pub fn admit(
     pages: &[u8],
     jobs: &[u64],
     free: &[u32],
+    maps: &[u8],
     job: usize,
     cpu: usize,
 ) -> Admission
-    requires { ⌜ requestTablesOk (machineOf (now counts) (now cpus) (now distances)) (tablesOf (now pages) (now jobs) (now free)) ≡ true ⌝ }
-    ensures { λ r. ⌜ admissionOf r ≡ admitted (machineOf (now (counts .entry)) (now (cpus .entry)) (now (distances .entry))) (tablesOf (now (pages .entry)) (now (jobs .entry)) (now (free .entry))) job cpu ⌝ }
+    requires { ⌜ requestTablesOk (machineOf (now counts) (now cpus) (now distances)) (tablesOf (now pages) (now jobs) (now free) (now maps)) ≡ true ⌝ }
+    ensures tested { λ r. ⌜ admissionOf r ≡ admitted (machineOf (now (counts .entry)) (now (cpus .entry)) (now (distances .entry))) (tablesOf (now (pages .entry)) (now (jobs .entry)) (now (free .entry)) (now (maps .entry))) job cpu ⌝ }
+    ensures limit { λ r. ⌜ LimitIs (limitOf (tablesOf (now (pages .entry)) (now (jobs .entry)) (now (free .entry)) (now (maps .entry))) job) r ⌝ }
 {
     let known = table::has_job(jobs.len(), job);
     if !known {
         return Admission::Refused(Refusal::NoSuchJob);
     }
-    if cpu >= cpus.len() {
-        return Admission::Refused(Refusal::NoSuchCpu);
+    let nodes = counts.len();
+    let judged = judging::judge(nodes, turning::of_job(maps, job));
+    match judged {
+        Judged::Good(set, _) => admit_mapped(nodes, cpus.len(), jobs, set, job, cpu),
+        Judged::Bad => Admission::Refused(Refusal::BadMap),
     }
-    let record = table::load(jobs, job);
-    if !record.well_formed(counts.len()) {
-        return Admission::Refused(Refusal::MalformedRecord);
-    }
-    Admission::Passed(record)
 }
 
 // The first node in the order that is counted above 0 grants: a request that has passed its tests, from a CPU on node x.
@@ -94,19 +135,20 @@ fn serve(
     free: &mut [u32],
     job: usize,
     loaded: Record,
-    x: Node,
-) -> Answer
-    requires { ⌜ Ready (now counts) (now starts) (now pages) job × (isJob (now jobs) job ≡ true) × (length (now free) ≡ length (now counts)) × Searchable (now free) (now distances) (loaded .allowed .0) (recordOf loaded) (x .0) × Hints (now counts) (now pages) (now hints) ⌝ }
-    ensures { λ r. ⌜ outcome (answerOf r) (tablesOf (now (pages .exit)) (now (jobs .exit)) (now (free .exit))) ≡ applied (tablesOf (now (pages .entry)) (now (jobs .entry)) (now (free .entry))) (serve (now (counts .entry)) (tablesOf (now (pages .entry)) (now (jobs .entry)) (now (free .entry))) job (chosen (now (free .entry)) (order (length (now (counts .entry))) (now (distances .entry)) (loaded .allowed .0) (plan (loaded .allowed .0) (recordOf loaded) (x .0))))) ⌝ }
+    limit: Mask,
+    x: SysNode,
+) -> Placed
+    requires { ⌜ Ready (now counts) (now starts) (now pages) job × (isJob (now jobs) job ≡ true) × (length (now free) ≡ length (now counts)) × Searchable (now free) (now distances) (limit .0) (recordOf loaded) (x .0) × Hints (now counts) (now pages) (now hints) ⌝ }
+    ensures did { λ r. ⌜ ((maps : List ℕ) → outcome (placedAs (mapOf (tablesOf (now (pages .entry)) (now (jobs .entry)) (now (free .entry)) maps) job) r) (tablesOf (now (pages .exit)) (now (jobs .exit)) (now (free .exit)) maps) ≡ applied (tablesOf (now (pages .entry)) (now (jobs .entry)) (now (free .entry)) maps) (serve (now (counts .entry)) (tablesOf (now (pages .entry)) (now (jobs .entry)) (now (free .entry)) maps) job (chosen (now (free .entry)) (order (length (now (counts .entry))) (now (distances .entry)) (limit .0) (plan (limit .0) (recordOf loaded) (x .0)))))) ⌝ }
+    ensures found { λ r. ⌜ InNode (now (counts .entry)) r ⌝ }
 {
-    let limit = loaded.allowed;
     let decoded = loaded.job();
     let chosen = search::search(free, distances, limit, decoded, x);
     match chosen {
         Chosen::At(node, cursor) => {
             grant::grant_node(counts, starts, hints, pages, jobs, free, job, node, cursor)
         }
-        Chosen::Nothing => Answer::Refused(Refusal::NoRoom),
+        Chosen::Nothing => Placed::Refused(Refusal::NoRoom),
     }
 }
 
@@ -120,16 +162,18 @@ pub fn request_at(
     pages: &mut [u8],
     jobs: &mut [u64],
     free: &mut [u32],
+    maps: &[u8],
     job: usize,
     cpu: usize,
-) -> Answer
-    requires { ⌜ (requestTablesOk (machineOf (now counts) (now cpus) (now distances)) (tablesOf (now pages) (now jobs) (now free)) ≡ true) × Starts (now counts) (now starts) × Hints (now counts) (now pages) (now hints) ⌝ }
-    ensures { λ r. ⌜ outcome (answerOf r) (tablesOf (now (pages .exit)) (now (jobs .exit)) (now (free .exit))) ≡ onRequest (machineOf (now (counts .entry)) (now (cpus .entry)) (now (distances .entry))) (tablesOf (now (pages .entry)) (now (jobs .entry)) (now (free .entry))) job cpu ⌝ }
+) -> Placed
+    requires { ⌜ (requestTablesOk (machineOf (now counts) (now cpus) (now distances)) (tablesOf (now pages) (now jobs) (now free) (now maps)) ≡ true) × Starts (now counts) (now starts) × Hints (now counts) (now pages) (now hints) ⌝ }
+    ensures did { λ r. ⌜ outcome (placedAs (mapOf (tablesOf (now (pages .entry)) (now (jobs .entry)) (now (free .entry)) (now (maps .entry))) job) r) (tablesOf (now (pages .exit)) (now (jobs .exit)) (now (free .exit)) (now (maps .entry))) ≡ onRequest (machineOf (now (counts .entry)) (now (cpus .entry)) (now (distances .entry))) (tablesOf (now (pages .entry)) (now (jobs .entry)) (now (free .entry)) (now (maps .entry))) job cpu ⌝ }
+    ensures found { λ r. ⌜ InNode (now (counts .entry)) r ⌝ }
 {
-    let admission = admit(counts, cpus, distances, pages, jobs, free, job, cpu);
+    let admission = admit(counts, cpus, distances, pages, jobs, free, maps, job, cpu);
     match admission {
-        Admission::Passed(record) => {
-            let x = Node(cpus[cpu]);
+        Admission::Passed(record, limit) => {
+            let x = SysNode(cpus[cpu]);
             serve(
                 counts,
                 starts,
@@ -140,14 +184,15 @@ pub fn request_at(
                 free,
                 job,
                 record,
+                limit,
                 x,
             )
         }
-        Admission::Refused(why) => Answer::Refused(why),
+        Admission::Refused(why) => Placed::Refused(why),
     }
 }
 
-// A request: refusals 1, 2, 3, 4, 14 and 8, or the page that the search order names.
+// A request: refusals 1, 2, 15, 3, 4, 14 and 8, or the page that the search order names.
 pub fn request(
     counts: &[u32],
     cpus: &[u8],
@@ -155,20 +200,28 @@ pub fn request(
     pages: &mut [u8],
     jobs: &mut [u64],
     free: &mut [u32],
+    maps: &[u8],
     job: usize,
     cpu: usize,
 ) -> Answer
-    ensures { λ r. ⌜ outcome (answerOf r) (tablesOf (now (pages .exit)) (now (jobs .exit)) (now (free .exit))) ≡ onRequest (machineOf (now (counts .entry)) (now (cpus .entry)) (now (distances .entry))) (tablesOf (now (pages .entry)) (now (jobs .entry)) (now (free .entry))) job cpu ⌝ }
+    ensures { λ r. ⌜ outcome (answerOf r) (tablesOf (now (pages .exit)) (now (jobs .exit)) (now (free .exit)) (now (maps .entry))) ≡ onRequest (machineOf (now (counts .entry)) (now (cpus .entry)) (now (distances .entry))) (tablesOf (now (pages .entry)) (now (jobs .entry)) (now (free .entry)) (now (maps .entry))) job cpu ⌝ }
 {
     if !machine::machine_ok(counts, cpus, distances) {
         return Answer::Refused(Refusal::BadTables);
     }
     let starts = machine::starts_of(counts);
     let total = machine::pages_end(counts, &starts);
-    if !lent_ok(counts.len(), total, pages.len(), jobs.len(), free.len()) {
+    if !lent_ok(
+        counts.len(),
+        total,
+        pages.len(),
+        jobs.len(),
+        free.len(),
+        maps.len(),
+    ) {
         return Answer::Refused(Refusal::BadTables);
     }
-    request_at(
+    let placed = request_at(
         counts,
         &starts,
         &starts,
@@ -177,44 +230,68 @@ pub fn request(
         pages,
         jobs,
         free,
+        maps,
         job,
         cpu,
-    )
+    );
+    placed::tell(maps, job, placed)
 }
 
 // ---- release
 
-// A release on tables that are in order, where the page's node is known: one byte and one count are written, after the last test.
+// A release for a job with a good map, where the page's node is known: one byte and one count are written, after the last test.
+fn release_held(
+    counts: &[u32],
+    pages: &mut [u8],
+    free: &mut [u32],
+    job: usize,
+    page: usize,
+    at: Located,
+) -> Placed
+    requires { ⌜ (freshTablesOk (now counts) (length (now pages)) (length (now free)) ≡ true) × (job < mostJobs) × (at .total ≡ sum (now counts)) × (page < sum (now counts) → at .node .0 ≡ nodeOfPage (now counts) page) ⌝ }
+    ensures did { λ r. ⌜ ((jobs maps : List ℕ) → outcome (placedAs (mapOf (tablesOf (now (pages .entry)) jobs (now (free .entry)) maps) job) r) (tablesOf (now (pages .exit)) jobs (now (free .exit)) maps) ≡ applied (tablesOf (now (pages .entry)) jobs (now (free .entry)) maps) (releaseTests (now (counts .entry)) (tablesOf (now (pages .entry)) jobs (now (free .entry)) maps) job page)) ⌝ }
+    ensures found { λ r. ⌜ InNode (now (counts .entry)) r ⌝ }
+{
+    if page >= at.total {
+        return Placed::Refused(Refusal::NotHeld);
+    }
+    let holder = pages[page];
+    if holder as usize != job + 1 {
+        return Placed::Refused(Refusal::NotHeld);
+    }
+    let node = at.node;
+    let n = node.0 as usize;
+    if counts[n] <= free[n] {
+        return Placed::Refused(Refusal::WrongCount);
+    }
+    pages[page] = 0;
+    free[n] = free[n] + 1;
+    Placed::Released(node, Page(page as u32))
+}
+
+// A release on tables that are in order, where the page's node is known.
 fn release_located(
     counts: &[u32],
     pages: &mut [u8],
     jobs: &[u64],
     free: &mut [u32],
+    maps: &[u8],
     job: usize,
     page: usize,
     at: Located,
-) -> Answer
-    requires { ⌜ (releaseTablesOk (now counts) (tablesOf (now pages) (now jobs) (now free)) ≡ true) × (at .total ≡ sum (now counts)) × (page < sum (now counts) → at .node .0 ≡ nodeOfPage (now counts) page) ⌝ }
-    ensures { λ r. ⌜ outcome (answerOf r) (tablesOf (now (pages .exit)) (now (jobs .entry)) (now (free .exit))) ≡ onRelease (now (counts .entry)) (tablesOf (now (pages .entry)) (now (jobs .entry)) (now (free .entry))) job page ⌝ }
+) -> Placed
+    requires { ⌜ (releaseTablesOk (now counts) (tablesOf (now pages) (now jobs) (now free) (now maps)) ≡ true) × (at .total ≡ sum (now counts)) × (page < sum (now counts) → at .node .0 ≡ nodeOfPage (now counts) page) ⌝ }
+    ensures did { λ r. ⌜ outcome (placedAs (mapOf (tablesOf (now (pages .entry)) (now (jobs .entry)) (now (free .entry)) (now (maps .entry))) job) r) (tablesOf (now (pages .exit)) (now (jobs .entry)) (now (free .exit)) (now (maps .entry))) ≡ onRelease (now (counts .entry)) (tablesOf (now (pages .entry)) (now (jobs .entry)) (now (free .entry)) (now (maps .entry))) job page ⌝ }
+    ensures found { λ r. ⌜ InNode (now (counts .entry)) r ⌝ }
 {
     if !table::has_job(jobs.len(), job) {
-        return Answer::Refused(Refusal::NoSuchJob);
+        return Placed::Refused(Refusal::NoSuchJob);
     }
-    if page >= at.total {
-        return Answer::Refused(Refusal::NotHeld);
+    let judged = judging::judge(counts.len(), turning::of_job(maps, job));
+    match judged {
+        Judged::Good(_, _) => release_held(counts, pages, free, job, page, at),
+        Judged::Bad => Placed::Refused(Refusal::BadMap),
     }
-    let holder = pages[page];
-    if holder as usize != job + 1 {
-        return Answer::Refused(Refusal::NotHeld);
-    }
-    let node = at.node;
-    let n = node.0 as usize;
-    if counts[n] <= free[n] {
-        return Answer::Refused(Refusal::WrongCount);
-    }
-    pages[page] = 0;
-    free[n] = free[n] + 1;
-    Answer::Released(node, Page(page as u32))
 }
 
 // A release on tables that are in order.
@@ -224,19 +301,21 @@ pub fn release_at(
     pages: &mut [u8],
     jobs: &[u64],
     free: &mut [u32],
+    maps: &[u8],
     job: usize,
     page: usize,
-) -> Answer
-    requires { ⌜ (releaseTablesOk (now counts) (tablesOf (now pages) (now jobs) (now free)) ≡ true) × Starts (now counts) (now starts) ⌝ }
-    ensures { λ r. ⌜ outcome (answerOf r) (tablesOf (now (pages .exit)) (now (jobs .entry)) (now (free .exit))) ≡ onRelease (now (counts .entry)) (tablesOf (now (pages .entry)) (now (jobs .entry)) (now (free .entry))) job page ⌝ }
+) -> Placed
+    requires { ⌜ (releaseTablesOk (now counts) (tablesOf (now pages) (now jobs) (now free) (now maps)) ≡ true) × Starts (now counts) (now starts) ⌝ }
+    ensures did { λ r. ⌜ outcome (placedAs (mapOf (tablesOf (now (pages .entry)) (now (jobs .entry)) (now (free .entry)) (now (maps .entry))) job) r) (tablesOf (now (pages .exit)) (now (jobs .entry)) (now (free .exit)) (now (maps .entry))) ≡ onRelease (now (counts .entry)) (tablesOf (now (pages .entry)) (now (jobs .entry)) (now (free .entry)) (now (maps .entry))) job page ⌝ }
+    ensures found { λ r. ⌜ InNode (now (counts .entry)) r ⌝ }
 {
     let total = machine::pages_end(counts, starts);
-    let mut node = Node(0);
+    let mut node = SysNode(0);
     if page < total {
         node = machine::node_of_page(counts, starts, Page(page as u32));
     }
     let at = Located { node, total };
-    release_located(counts, pages, jobs, free, job, page, at)
+    release_located(counts, pages, jobs, free, maps, job, page, at)
 }
 
 // Release: a page that the job holds becomes free. No starts are made: one pass over the counts finds the page's node and sums them.
@@ -245,20 +324,29 @@ pub fn release(
     pages: &mut [u8],
     jobs: &[u64],
     free: &mut [u32],
+    maps: &[u8],
     job: usize,
     page: usize,
 ) -> Answer
-    ensures { λ r. ⌜ outcome (answerOf r) (tablesOf (now (pages .exit)) (now (jobs .entry)) (now (free .exit))) ≡ onRelease (now (counts .entry)) (tablesOf (now (pages .entry)) (now (jobs .entry)) (now (free .entry))) job page ⌝ }
+    ensures { λ r. ⌜ outcome (answerOf r) (tablesOf (now (pages .exit)) (now (jobs .entry)) (now (free .exit)) (now (maps .entry))) ≡ onRelease (now (counts .entry)) (tablesOf (now (pages .entry)) (now (jobs .entry)) (now (free .entry)) (now (maps .entry))) job page ⌝ }
 {
     if !machine::counts_ok(counts) {
         return Answer::Refused(Refusal::BadTables);
     }
     let at = machine::locate(counts, page);
-    let fits = lent_ok(counts.len(), at.total, pages.len(), jobs.len(), free.len());
+    let fits = lent_ok(
+        counts.len(),
+        at.total,
+        pages.len(),
+        jobs.len(),
+        free.len(),
+        maps.len(),
+    );
     if !((at.total <= 1_048_576) & fits) {
         return Answer::Refused(Refusal::BadTables);
     }
-    release_located(counts, pages, jobs, free, job, page, at)
+    let placed = release_located(counts, pages, jobs, free, maps, job, page, at);
+    placed::tell(maps, job, placed)
 }
 
 // ---- the fresh table

@@ -8,7 +8,7 @@ use nodemask::Found;
 use nodemask::Mask;
 use records::job::Job;
 use records::job::Mode;
-use rules::Node;
+use rules::SysNode;
 
 // A walk over the places of a list, from the cursor on, once round. `early`: place 0 comes before it.
 // `moves`: a place that grants leaves itself for the last one; else the cursor stays.
@@ -21,7 +21,7 @@ pub struct Walk {
 
 // By near(x) over a set of nodes, every grant leaving one cursor; or by places.
 pub enum Plan {
-    Near(Mask, Node, u8),
+    Near(Mask, SysNode, u8),
     Places(Walk),
 }
 
@@ -40,7 +40,7 @@ impl Walk {
 
 impl Plan {
     // The plan of a job, well formed on this many nodes, from a CPU on node x. `limit` is the set of nodes that the job may get.
-    pub fn of(nodes: usize, limit: Mask, job: Job, x: Node) -> Plan
+    pub fn of(nodes: usize, limit: Mask, job: Job, x: SysNode) -> Plan
         requires { ⌜ Plannable nodes (limit .0) (jobOf job) (x .0) ⌝ }
         ensures as_ruled { λ r. ⌜ planOf (job .places) r ≡ plan (limit .0) (jobOf job) (x .0) ⌝ }
         ensures inside { λ r. ⌜ Inside nodes r ⌝ }

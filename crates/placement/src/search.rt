@@ -20,18 +20,18 @@ use machine;
 use nodemask::Found;
 use nodemask::Mask;
 use records::job::Job;
-use rules::Node;
 use rules::PLACES_PER_JOB;
 use rules::Place;
+use rules::SysNode;
 
 // The node that is chosen, and the cursor field that a grant there leaves.
 pub enum Chosen {
-    At(Node, u8),
+    At(SysNode, u8),
     Nothing,
 }
 
 // Is the node one of the machine's, in the limit, and counted above 0? There is a count for each node.
-fn is_open(free: &[u32], limit: Mask, node: Node) -> bool
+fn is_open(free: &[u32], limit: Mask, node: SysNode) -> bool
     ensures { λ r. ⌜ r ≡ (ltb (node .0) (length (now (free .entry))) && has (limit .0) (node .0) && counted (now (free .entry)) (node .0)) ⌝ }
 {
     let n = node.0 as usize;
@@ -44,7 +44,7 @@ fn is_open(free: &[u32], limit: Mask, node: Node) -> bool
 // ---- by near(x)
 
 // The nearest node of the set that is counted above 0.
-fn search_near(free: &[u32], distances: &[u8], set: Mask, x: Node, cursor: u8) -> Chosen
+fn search_near(free: &[u32], distances: &[u8], set: Mask, x: SysNode, cursor: u8) -> Chosen
     requires { ⌜ Nearable (length (now free)) (now distances) (set .0) (x .0) ⌝ }
     ensures { λ r. ⌜ chosenBy r ≡ chosen (now (free .entry)) (map (try (turnOf cursor)) (near (length (now (free .entry))) (now (distances .entry)) (set .0) (x .0))) ⌝ }
 {
@@ -88,7 +88,7 @@ fn search_round(free: &[u32], limit: Mask, places: [u8; PLACES_PER_JOB], walk: W
     let mut left = walk.len;
     while 0 < left {
         let place = place_at(position, walk.len);
-        let node = Node(places[place.0 as usize]);
+        let node = SysNode(places[place.0 as usize]);
         if is_open(free, limit, node) {
             return Chosen::At(node, cursor_after(walk, place));
         }
@@ -104,7 +104,7 @@ fn search_places(free: &[u32], limit: Mask, places: [u8; PLACES_PER_JOB], walk: 
     ensures { λ r. ⌜ chosenBy r ≡ chosen (now (free .entry)) (tried (length (now (free .entry))) (limit .0) (walkTries walk places)) ⌝ }
 {
     if walk.early {
-        let first = Node(places[0]);
+        let first = SysNode(places[0]);
         if is_open(free, limit, first) {
             return Chosen::At(first, cursor_after(walk, Place(0)));
         }
@@ -115,7 +115,7 @@ fn search_places(free: &[u32], limit: Mask, places: [u8; PLACES_PER_JOB], walk: 
 // ---- by the plan
 
 // The search of a well-formed job from a CPU on node x. `limit` is the set of nodes that the job may get.
-pub fn search(free: &[u32], distances: &[u8], limit: Mask, decoded: Job, x: Node) -> Chosen
+pub fn search(free: &[u32], distances: &[u8], limit: Mask, decoded: Job, x: SysNode) -> Chosen
     requires { ⌜ Searchable (now free) (now distances) (limit .0) (jobOf decoded) (x .0) ⌝ }
     ensures { λ r. ⌜ chosenBy r ≡ chosen (now (free .entry)) (order (length (now (free .entry))) (now (distances .entry)) (limit .0) (plan (limit .0) (jobOf decoded) (x .0))) ⌝ }
 {

@@ -47,7 +47,7 @@ fn read_opening(bytes: &mut [u8]) -> Got
     Got::Bytes(done)
 }
 
-// The records after a good machine record, on free pages, their counts and fresh jobs, part by part until the run ends.
+// The records after a good machine record, on free pages, their counts, fresh jobs and their maps, part by part until the run ends.
 fn answer_records(bytes: &[u8])
     requires { ⌜ opening (now bytes) ≡ accept (machineSize (now bytes)) ⌝ }
 {
@@ -55,6 +55,7 @@ fn answer_records(bytes: &[u8])
     let mut jobs = journal::fresh_jobs();
     let nodes = reading::byte_at(bytes, 3);
     let mut free = opening::page_counts(bytes);
+    let mut maps = journal::identity_maps(nodes);
     let mut input = io::large_buffer();
     let mut output = part::answer_buffer();
     let mut kept = 0;
@@ -65,6 +66,7 @@ fn answer_records(bytes: &[u8])
             &mut pages,
             &mut jobs,
             &mut free[..nodes],
+            &mut maps,
             &mut input,
             &mut output,
             kept,

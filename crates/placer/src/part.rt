@@ -47,15 +47,25 @@ fn answer_there(
     pages: &mut [u8],
     jobs: &mut [u64],
     free: &mut [u32],
+    maps: &mut [u8],
     input: &mut [u8],
     output: &mut [u8],
     there: usize,
     ended: bool,
 ) -> Rest
-    requires { ⌜ Opened (now opening) (tablesOf (now pages) (now jobs) (now free)) × (there ≤ length (now input)) × (65536 ≡ length (now input)) × (24588 ≡ length (now output)) ⌝ }
-    ensures { λ r. ⌜ Answered (onPart (machineIn (now (opening .entry))) (tablesOf (now (pages .entry)) (now (jobs .entry)) (now (free .entry))) (take there (now (input .entry))) ended (now (output .entry))) (take there (now (input .entry))) (tablesOf (now (pages .exit)) (now (jobs .exit)) (now (free .exit))) (now (input .exit)) (now (output .exit)) r ⌝ }
+    requires { ⌜ Opened (now opening) (tablesOf (now pages) (now jobs) (now free) (now maps)) × (there ≤ length (now input)) × (65536 ≡ length (now input)) × (24588 ≡ length (now output)) ⌝ }
+    ensures { λ r. ⌜ Answered (onPart (machineIn (now (opening .entry))) (tablesOf (now (pages .entry)) (now (jobs .entry)) (now (free .entry)) (now (maps .entry))) (take there (now (input .entry))) ended (now (output .entry))) (take there (now (input .entry))) (tablesOf (now (pages .exit)) (now (jobs .exit)) (now (free .exit)) (now (maps .exit))) (now (input .exit)) (now (output .exit)) r ⌝ }
 {
-    let part = run::run_part(opening, pages, jobs, free, &input[..there], ended, output);
+    let part = run::run_part(
+        opening,
+        pages,
+        jobs,
+        free,
+        maps,
+        &input[..there],
+        ended,
+        output,
+    );
     let used = part.read;
     let written = part.written;
     let sent = stdio::write_all(&output[..written]);
@@ -72,12 +82,13 @@ pub fn answer_part(
     pages: &mut [u8],
     jobs: &mut [u64],
     free: &mut [u32],
+    maps: &mut [u8],
     input: &mut [u8],
     output: &mut [u8],
     kept: usize,
 ) -> Rest
-    requires { ⌜ Opened (now opening) (tablesOf (now pages) (now jobs) (now free)) × (kept ≤ length (now input)) × (65536 ≡ length (now input)) × (24588 ≡ length (now output)) ⌝ }
-    ensures { λ r. ⌜ Turn (machineIn (now (opening .entry))) (tablesOf (now (pages .entry)) (now (jobs .entry)) (now (free .entry))) (take kept (now (input .entry))) (now (output .entry)) (tablesOf (now (pages .exit)) (now (jobs .exit)) (now (free .exit))) (now (input .exit)) (now (output .exit)) r ⌝ }
+    requires { ⌜ Opened (now opening) (tablesOf (now pages) (now jobs) (now free) (now maps)) × (kept ≤ length (now input)) × (65536 ≡ length (now input)) × (24588 ≡ length (now output)) ⌝ }
+    ensures { λ r. ⌜ Turn (machineIn (now (opening .entry))) (tablesOf (now (pages .entry)) (now (jobs .entry)) (now (free .entry)) (now (maps .entry))) (take kept (now (input .entry))) (now (output .entry)) (tablesOf (now (pages .exit)) (now (jobs .exit)) (now (free .exit)) (now (maps .exit))) (now (input .exit)) (now (output .exit)) r ⌝ }
 {
     let got = stdio::read_some(&mut input[kept..]);
     match got {
@@ -87,13 +98,14 @@ pub fn answer_part(
                 pages,
                 jobs,
                 free,
+                maps,
                 input,
                 output,
                 kept + came,
                 false,
             )
         }
-        Got::End => answer_there(opening, pages, jobs, free, input, output, kept, true),
+        Got::End => answer_there(opening, pages, jobs, free, maps, input, output, kept, true),
         Got::Failed => Rest::Ended,
     }
 }

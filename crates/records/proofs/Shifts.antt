@@ -19,7 +19,7 @@ use Rattle.rules.specs.Records.{placesPerJob, bytesOf, fromBytes}
 use Rattle.rules.proofs.Bytes.{AreBytes, bytes-length, bytes-at, from-bytes-lt, take-bytes, drop-bytes}
 use Rattle.rules.proofs.Lists.{both-true, both-hold, same-test}
 use Rattle.rules.proofs.Records.{places-again}
-use Rattle.records.proofs.Filled.{filled, fill-length, fill-step, fill-end}
+use Rattle.rules.proofs.Filled.{filled, fill-length, fill-step, fill-end}
 
 -- a shift and a mask read a byte
 pub masked : (w k : ℕ) → bitAnd (w / 2 ^ (8 * k)) 255 ≡ w / 2 ^ (8 * k) % 256
@@ -37,11 +37,11 @@ next-byte w b hw hb = let fits : w * 256 < 2 ^ 64 = omega arith in rw (mod-eq-of
 
 -- the first i places of a word, and zeros after them
 abbrev pub half : ℕ → ℕ → List ℕ
-half w i = filled 8 (bytesOf 8 w) i
+half w i = filled 8 0 (bytesOf 8 w) i
 
 -- one place more of a word
 half-step : (w i a : ℕ) → i < 8 → a ≡ w / 2 ^ (8 * i) % 256 → set (half w i) i a ≡ half w (i + 1)
-half-step w i a h e = rw (e ∙ sym (bytes-at 8 w i h)) (fill-step 8 (bytesOf 8 w) i (rw (bytes-length 8 w) h) h)
+half-step w i a h e = rw (e ∙ sym (bytes-at 8 w i h)) (fill-step 8 0 (bytesOf 8 w) i 0 (rw (bytes-length 8 w) h) h)
 
 -- a store past a list's end is one into what follows it
 set-right : (xs ys : List ℕ) (i a : ℕ) → set (xs ++ ys) (length xs + i) a ≡ xs ++ set ys i a
@@ -52,7 +52,7 @@ set-right (x ∷ xs) ys i a = rw suc-add (ap (λ (zs : List ℕ). x ∷ zs) (set
 pub unpack-step : (low high i a b : ℕ) → i < 8 → a ≡ low / 2 ^ (8 * i) % 256 → b ≡ high / 2 ^ (8 * i) % 256
     → set (set (half low i ++ half high i) i a) (i + 8) b ≡ half low (i + 1) ++ half high (i + 1)
 unpack-step low high i a b h ea eb =
-    let long : length (half low i) ≡ 8 = fill-length 8 (bytesOf 8 low) i (rw (bytes-length 8 low) (omega arith)) (omega arith) in
+    let long : length (half low i) ≡ 8 = fill-length 8 0 (bytesOf 8 low) i (rw (bytes-length 8 low) (omega arith)) (omega arith) in
     let new = set (half low i) i a in
     let seam : i + 8 ≡ length new + i = simp length-set (omega arith) in
     ap (λ (xs : List ℕ). set xs (i + 8) b) (set-append-left (half low i) (half high i) i a (omega arith))
@@ -63,7 +63,7 @@ unpack-step low high i a b h ea eb =
 -- all eight places of a word
 whole : (w : ℕ) → half w 8 ≡ bytesOf 8 w
 whole w =
-    fill-end 8 (bytesOf 8 w) 8 (rw (bytes-length 8 w) (omega arith)) (le-refl 8) (inr (le-refl 8))
+    fill-end 8 0 (bytesOf 8 w) 8 (rw (bytes-length 8 w) (omega arith)) (le-refl 8) (inr (le-refl 8))
     ∙ take-at (bytesOf 8 w) (replicate 8 0) 8 (bytes-length 8 w)
 
 -- all eight of each word are the sixteen places

@@ -17,6 +17,7 @@ use Rattle.records.specs.declared.job.Flag.the-variants.{Plain, Static, 
 use Rattle.records.specs.declared.job.Mode.{Mode}
 use Rattle.records.specs.declared.job.Mode.the-variants.{Default, Preferred, Bind, Interleave, List, Ring, Early}
 use Rattle.records.specs.declared.job.Job.{Job}
+use Rattle.records.specs.declared.policy.AppPolicy.{AppPolicy}
 use Rattle.records.specs.declared.policy.Policy.{Policy}
 use Rattle.records.specs.declared.record.Record.{Record}
 
@@ -113,14 +114,23 @@ recordOf r = record {
 abbrev pub carriedOf : LawRecord → Carried
 carriedOf r = carried (r .mode) (r .flag) (r .len) (r .turn .cursor) (r .user) (r .effective)
 
--- what the code's policy asks for, with these places
-abbrev pub asked : Policy → Lists.List ℕ → Asked
-asked c places = policy (c .mode) (c .flag) (c .user .0) places
+-- what a policy in the job's own numbers asks for, and what one in system nodes stands for, with these places
+abbrev pub asked : AppPolicy → Lists.List ℕ → Asked
+asked c places = policy (c .mode) (c .flag) (c .user) places
 
--- The code's policy asks for p: it has the number of the places, the first sixteen of them, and zeros past their end
-pub record Asks (c : Policy) (p : Asked) : Type 0 where
-  pub mode : p .mode ≡ c .mode
-  pub flag : p .flag ≡ c .flag
-  pub user : p .user ≡ c .user .0
-  pub len : length (p .places) ≡ c .len
-  pub places : take placesPerJob (p .places ++ replicate placesPerJob 0) ≡ c .places
+abbrev pub stands : Policy → Lists.List ℕ → Asked
+stands c places = policy (c .mode) (c .flag) (c .user .0) places
+
+-- These numbers stand for policy p: they have the number of its places, the first sixteen of them, and zeros past their end
+pub record Numbers (mode flag user len : ℕ) (places : Lists.List ℕ) (p : Asked) : Type 0 where
+  pub same-mode : p .mode ≡ mode
+  pub same-flag : p .flag ≡ flag
+  pub same-user : p .user ≡ user
+  pub same-len : length (p .places) ≡ len
+  pub same-places : take placesPerJob (p .places ++ replicate placesPerJob 0) ≡ places
+
+abbrev pub Asks : AppPolicy → Asked → Type 0
+Asks c p = Numbers (c .mode) (c .flag) (c .user) (c .len) (c .places) p
+
+abbrev pub Stands : Policy → Asked → Type 0
+Stands c p = Numbers (c .mode) (c .flag) (c .user .0) (c .len) (c .places) p

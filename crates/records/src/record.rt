@@ -8,8 +8,8 @@ ghost use Prim.Native.Nat.{ℕ, _<_};
 ghost use lib.Dec.{eqb};
 ghost use lib.ListN.{drop};
 ghost use Rattle.rules.specs.Basics.{all};
-ghost use Rattle.rules.specs.Records.{Policy as Asked, bytesOf, rowOf, carries, modeOf, flagOf, unusedZero, allowedFits, cursorFits, noMasks, effectiveFits, masksFit, dataFits, wellFormed, installed};
-ghost use Rattle.records.specs.Jobs.{rowIn, jobOf, recordOf, Asks};
+ghost use Rattle.rules.specs.Records.{Policy as Stored, bytesOf, rowOf, carries, modeOf, flagOf, unusedZero, allowedFits, cursorFits, noMasks, effectiveFits, masksFit, dataFits, wellFormed, installed};
+ghost use Rattle.records.specs.Jobs.{rowIn, jobOf, recordOf, Stands};
 use super::job::Flag;
 use super::job::Job;
 use super::job::Mode;
@@ -187,7 +187,7 @@ impl Record {
     // "Install stores mode, flag, user mask or places, keeps the allowed mask and clears the rest"
     pub fn installed(self, policy: Policy) -> Record
         requires { ⌜ (0 < self .allowed .0) × (policy .mode < 256) × (policy .flag < 3) × (policy .len < 256) ⌝ }
-        ensures { λ r. ⌜ ((p : Asked) → Asks policy p → recordOf r ≡ installed (recordOf self) p) ⌝ }
+        ensures { λ r. ⌜ ((p : Stored) → Stands policy p → recordOf r ≡ installed (recordOf self) p) ⌝ }
     {
         let flag = policy.flag as u8;
         let user = policy.user;

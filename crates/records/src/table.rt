@@ -4,13 +4,14 @@ ghost use mathlib.Core.Path.{_≡_};
 ghost use Prim.Native.Nat.{_<_};
 ghost use lib.Dec.{ltb};
 ghost use lib.ListN.{length};
-ghost use Rattle.rules.specs.Calls.{recordTablesOk};
+ghost use Rattle.rules.specs.Calls.{recordTablesOk, mappedTablesOk};
 ghost use Rattle.rules.specs.Records.{jobCount, recordAt, putRecord, withTurn};
 ghost use Rattle.records.specs.Jobs.{recordOf, turnOf};
 use super::record::Record;
 use super::words;
 use nodemask;
 use nodemask::Mask;
+use rules::MAP_BYTES;
 use rules::MOST_JOBS;
 use rules::WORDS_PER_JOB;
 
@@ -20,6 +21,16 @@ pub fn tables_ok(nodes: usize, words: usize) -> bool
 {
     let jobs = words / WORDS_PER_JOB;
     nodemask::nodes_ok(nodes) & ((words % WORDS_PER_JOB == 0) & ((1 <= jobs) & (jobs <= MOST_JOBS)))
+}
+
+// And the length of the map table: "64 bytes a job".
+pub fn mapped_ok(nodes: usize, words: usize, bytes: usize) -> bool
+    ensures { λ r. ⌜ r ≡ mappedTablesOk nodes words bytes ⌝ }
+{
+    if !tables_ok(nodes, words) {
+        return false;
+    }
+    bytes == MAP_BYTES * (words / WORDS_PER_JOB)
 }
 
 // The job is one of the table's.

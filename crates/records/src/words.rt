@@ -57,10 +57,6 @@ pub fn padded(places: &[u8]) -> [u8; PLACES_PER_JOB]
     ensures { λ r. ⌜ r ≡ take placesPerJob (now (places .entry) ++ replicate placesPerJob 0) ⌝ }
 {
     let mut out = [0u8; PLACES_PER_JOB];
-    let mut i: usize = 0;
-    while (i < places.len()) & (i < PLACES_PER_JOB) {
-        out[i] = places[i];
-        i += 1;
-    }
+    rules::copy_first(places, &mut out);
     out
 }

@@ -1,7 +1,7 @@
 -- A list of calls, run a call at a time: the tables stay in order, and every answer is written in its place.
 -- Assumes nothing.
 use Prim.Native.Nat.{ℕ, suc, _+_, _≤_, _<_}
-use mathlib.Core.Path.{_≡_, refl, sym, ap, subst, _∙_}
+use mathlib.Core.Path.{_≡_, refl, sym, ap, _∙_}
 use mathlib.Core.Bool.{true, false}
 use mathlib.Core.List.{List, [], _∷_, _++_, map, append-assoc, map-append}
 use native.Mathlib.Numerals.{add-one}
@@ -12,7 +12,7 @@ use lib.Seq.{drop-cons, set-at}
 use Rattle.rules.specs.Basics.{each, from}
 use Rattle.rules.specs.Machine.{Machine}
 use Rattle.rules.specs.Decisions.{Decision, refuse, accept, decided}
-use Rattle.rules.specs.Calls.{Answer, Tables, tablesOf, Outcome, outcome, requestTablesOk}
+use Rattle.rules.specs.Calls.{Answer, Tables, Outcome, outcome, requestTablesOk}
 use Rattle.rules.specs.Book.{Call, step, answers, final}
 use Rattle.rules.proofs.Book.{final-append, answers-append, page-owner}
 use Rattle.fairness.specs.Demand3.{Demand3}
@@ -112,15 +112,12 @@ pub replayed-belongs : (m : Machine) (t : Tables) (words out : List ℕ) (k n : 
 unfolding onReplay
 replayed-belongs m t words out k n zeros ran = go (replayDecision m t words (length out)) ran
   where
-    Owned : Tables → Type 0
-    Owned u = Belongs m u (callsIn words) (final m u (callsIn words) .ledger)
-
     ranAs : Decision ℕ → Run
     ranAs d = decided (λ r. run (refuse r) t out) (λ n. run (accept n) (final m t (callsIn words)) (answerWords m t (callsIn words) ++ drop n out)) d
 
     go : (d : Decision ℕ) → ranAs d .answer ≡ accept n → Belongs m t (callsIn words) (ranAs d .tables .ledger)
     go (refuse r) e = absurd (let z : _≡_ {A = ℕ} 0 1 = cc in omega arith)
-    go (accept i) e = subst (λ (l : List ℕ). Owned (tablesOf l (t .records) (t .free))) (sym zeros) (page-owner m k (t .records) (t .free) (callsIn words))
+    go (accept i) e = page-owner m t k zeros (callsIn words)
 
 -- What `replay` promises of its answer, of the tables and of the output: they are the run's; demand 3; demand 2's sentence of the ledger.
 pub fair-and-owned : (m : Machine) (t : Tables) (words out : List ℕ) (a : Decision ℕ) (after : Tables) (output : List ℕ)

@@ -1,6 +1,6 @@
 -- The laws of the encoded calls: the places of a call, and the calls of a list one by one.
 -- Assumes nothing.
-use Prim.Native.Nat.{ℕ, zero, suc, _+_, _-_, _*_, _%_, _≤_, _<_}
+use Prim.Native.Nat.{ℕ, zero, suc, _+_, _-_, _*_, _/_, _%_, _^_, _≤_, _<_}
 use mathlib.Core.Path.{_≡_, refl, sym, ap, _∙_}
 use mathlib.Core.Bool.{Bool, true, false, _&&_, _||_, cond, and-false, or-false}
 use mathlib.Core.Logic.{⊎-elim}
@@ -8,18 +8,19 @@ use mathlib.Core.List.{List, [], _∷_, _++_, append-assoc}
 use native.Mathlib.Nat.{zero-add, sub-zero, add-sub-cancel-left}
 use native.Mathlib.Decide.{decLe}
 use native.Mathlib.Omega.{arith}
-use borrow.Author.Tests.{eqb-true, eq-eqb, ne-eqb, lt-leb, le-ltb, lt-ltb}
+use borrow.Author.Tests.{eq-eqb, ne-eqb, le-leb, lt-leb, le-ltb, lt-ltb}
 use lib.Dec.{eqb, leb, ltb}
 use lib.ListN.{length, getD, take, drop, replicate, length-append, length-drop, length-replicate}
-use lib.Seq.{take-all, take-append-le, length-take-le, take-take, drop-cons}
+use lib.Seq.{take-all, take-append-le, length-take-le, take-take, drop-cons, getD-append-add, getD-drop}
 use Rattle.rules.specs.Basics.{all, each, from, between}
 use Rattle.rules.specs.Records.{bytesOf, placesPerJob, policy}
 use Rattle.rules.specs.Decisions.{Decision, refuse, accept, isAccepted, acceptedIn}
-use Rattle.rules.specs.Book.{Call, request, release, install, rebind, clear, freshTable}
+use Rattle.rules.specs.Book.{Call, request, release, install, rebind, clear, freshTable, keepNodes, setMap}
 use Rattle.rules.specs.Journal.{kindOf}
-use Rattle.rules.proofs.Bytes.{bytes-length}
+use Rattle.rules.proofs.Bytes.{bytes-length, bytes-at}
 use Rattle.rules.proofs.Lists.{both-true, either-true, between-true, all-true, member-from, each-from-suc, all-from-step, all-from-end}
-use Rattle.replay.specs.Encoding.{callWords, wordAt, filled, placesIn, callOf, ownCall, callIn, wordsOf, callCount, callsTo, callsOk}
+use Rattle.book.specs.Says.{Named}
+use Rattle.replay.specs.Encoding.{callWords, wordAt, filled, listIn, callOf, ownCall, callIn, wordsOf, callCount, callsTo, callsOk}
 
 -- ---- one call
 
@@ -38,23 +39,28 @@ journal-kind call k = go k
         let n : ℕ = suc (suc (suc (suc (suc (suc k))))) in
         unfold callOf in rw (lt-leb n 5 (omega arith), and-false (leb 1 n))
 
--- the first of the own kinds is known, and no other
-own-kind : (k : ℕ) → 16 ≤ k → isAccepted (ownCall (k - 16)) ≡ eqb k 16
+-- the first three of the own kinds are known, and no other
+own-kind : (call : List ℕ) (k : ℕ) → 16 ≤ k → isAccepted (ownCall call (k - 16)) ≡ between 16 18 k
 unfolding ownCall
-own-kind k l = go (k - 16) refl
+own-kind call k l = go (k - 16) refl
   where
-    go : (d : ℕ) → k - 16 ≡ d → isAccepted (getD (accept freshTable ∷ []) d (refuse 13)) ≡ eqb k 16
-    go zero e = sym (eq-eqb k 16 (omega arith))
-    go (suc d) e = sym (ne-eqb k 16 (omega arith))
+    three : List (Decision Call)
+    three = accept freshTable ∷ accept (keepNodes (wordAt call 1) (listIn call)) ∷ accept (setMap (wordAt call 1) (listIn call)) ∷ []
 
--- the kinds that are known: those of the journal, and 16
-pub known-kind : (call : List ℕ) → isAccepted (callIn call) ≡ (between 1 5 (wordAt call 0) || eqb (wordAt call 0) 16)
+    go : (d : ℕ) → k - 16 ≡ d → isAccepted (getD three d (refuse 13)) ≡ between 16 18 k
+    go zero e = rw (le-leb 16 k l, le-leb k 18 (omega arith))
+    go (suc zero) e = rw (le-leb 16 k l, le-leb k 18 (omega arith))
+    go (suc (suc zero)) e = rw (le-leb 16 k l, le-leb k 18 (omega arith))
+    go (suc (suc (suc d))) e = rw (lt-leb k 18 (omega arith), and-false (leb 16 k))
+
+-- the kinds that are known: those of the journal, and 16 to 18
+pub known-kind : (call : List ℕ) → isAccepted (callIn call) ≡ (between 1 5 (wordAt call 0) || between 16 18 (wordAt call 0))
 unfolding callIn
 known-kind call = go (wordAt call 0) (decLe 16 (wordAt call 0))
   where
-    go : (k : ℕ) → Dec (16 ≤ k) → isAccepted (cond (ltb k 16) (callOf (kindOf k) call) (ownCall (k - 16))) ≡ (between 1 5 k || eqb k 16)
-    go k (yes l) = rw (le-ltb k 16 l, lt-leb k 5 (omega arith), and-false (leb 1 k)) (own-kind k l)
-    go k (no l) = rw (lt-ltb k 16 (omega arith), ne-eqb k 16 (omega arith), or-false (between 1 5 k)) (journal-kind call k)
+    go : (k : ℕ) → Dec (16 ≤ k) → isAccepted (cond (ltb k 16) (callOf (kindOf k) call) (ownCall call (k - 16))) ≡ (between 1 5 k || between 16 18 k)
+    go k (yes l) = rw (le-ltb k 16 l, lt-leb k 5 (omega arith), and-false (leb 1 k)) (own-kind call k l)
+    go k (no l) = rw (lt-ltb k 16 (omega arith), lt-leb 16 k (omega arith), or-false (between 1 5 k)) (journal-kind call k)
 
 -- the call of a kind
 module _ (call : List ℕ) (c : Call) (e : callIn call ≡ accept c) where
@@ -78,7 +84,7 @@ module _ (call : List ℕ) (c : Call) (e : callIn call ≡ accept c) where
   says-rebind s = let q = of-kind 3 (omega arith) s in cc
 
   -- 4 is an install
-  pub says-install : wordAt call 0 ≡ 4 → c ≡ install (wordAt call 1) (policy (wordAt call 2) (wordAt call 3) (wordAt call 4) (placesIn call))
+  pub says-install : wordAt call 0 ≡ 4 → c ≡ install (wordAt call 1) (policy (wordAt call 2) (wordAt call 3) (wordAt call 4) (listIn call))
   unfolding callOf
   says-install s = let q = of-kind 4 (omega arith) s in cc
 
@@ -87,25 +93,42 @@ module _ (call : List ℕ) (c : Call) (e : callIn call ≡ accept c) where
   unfolding callOf
   says-clear s = let q = of-kind 5 (omega arith) s in cc
 
+  -- 17 is a tenant's call
+  pub says-keep : wordAt call 0 ≡ 17 → c ≡ keepNodes (wordAt call 1) (listIn call)
+  unfolding callIn ownCall
+  says-keep s = let q = rw s at e in cc
+
+  -- and what is above it is an administrator's
+  pub says-set : 17 ≤ wordAt call 0 → (wordAt call 0 ≡ 17 → ⊥) → c ≡ setMap (wordAt call 1) (listIn call)
+  unfolding callIn ownCall
+  says-set l n = let q = rw eighteen-is at e in cc
+    where
+      eighteen-is : wordAt call 0 ≡ 18
+      eighteen-is =
+          ⊎-elim
+          (λ b. let k = between-true 1 5 (wordAt call 0) b in absurd (omega arith))
+          (λ b. let k = between-true 16 18 (wordAt call 0) b in omega arith)
+          (either-true (sym (known-kind call) ∙ ap isAccepted e))
+
   -- and what is none of these is a fresh table
   pub says-fresh : (wordAt call 0 ≡ 1 → ⊥) → (wordAt call 0 ≡ 2 → ⊥) → (wordAt call 0 ≡ 3 → ⊥) → (wordAt call 0 ≡ 4 → ⊥) → (wordAt call 0 ≡ 5 → ⊥)
-      → c ≡ freshTable
+      → wordAt call 0 < 17 → c ≡ freshTable
   unfolding callIn ownCall
-  says-fresh n₁ n₂ n₃ n₄ n₅ = let q = rw sixteen-is at e in cc
+  says-fresh n₁ n₂ n₃ n₄ n₅ l = let q = rw sixteen-is at e in cc
     where
-      known : (between 1 5 (wordAt call 0) || eqb (wordAt call 0) 16) ≡ true
+      known : (between 1 5 (wordAt call 0) || between 16 18 (wordAt call 0)) ≡ true
       known = sym (known-kind call) ∙ ap isAccepted e
 
       sixteen-is : wordAt call 0 ≡ 16
       sixteen-is =
           ⊎-elim
           (λ b. let k = between-true 1 5 (wordAt call 0) b in absurd (omega arith))
-          (λ q. eqb-true (wordAt call 0) 16 q)
+          (λ b. let k = between-true 16 18 (wordAt call 0) b in omega arith)
           (either-true known)
 
 -- a list of so many places has that length
-pub places-length : (call : List ℕ) → length (placesIn call) ≡ wordAt call 5
-unfolding placesIn
+pub places-length : (call : List ℕ) → length (listIn call) ≡ wordAt call 5
+unfolding listIn
 places-length call =
     let n : ℕ = wordAt call 5 in
     length-take-le n _ (omega (arith, length-append (each (bytesOf 8) (drop 8 call)) (replicate n 0), length-replicate n (let z : ℕ = 0 in z)))
@@ -142,20 +165,78 @@ module _ (call : List ℕ) (h : length call ≡ callWords) where
       ap (λ (l : List ℕ). l ++ replicate (wordAt call 5) 0) (all-places .1) ∙ append-assoc (sixteen call) (all-places .0) (replicate (wordAt call 5) 0)
 
   -- a list of at most sixteen places
-  pub short-places : wordAt call 5 ≤ placesPerJob → filled (take (wordAt call 5) (sixteen call)) ≡ filled (placesIn call)
-  unfolding placesIn listed
+  pub short-places : wordAt call 5 ≤ placesPerJob → filled (take (wordAt call 5) (sixteen call)) ≡ filled (listIn call)
+  unfolding listIn listed
   short-places l =
       ap filled (sym (ap (take (wordAt call 5)) sixteen-first ∙ take-append-le (wordAt call 5) (sixteen call) tail (omega (arith, sixteen-long))))
 
   -- a list of sixteen places or more
-  pub long-places : placesPerJob ≤ wordAt call 5 → sixteen call ≡ filled (placesIn call)
-  unfolding placesIn listed
+  pub long-places : placesPerJob ≤ wordAt call 5 → sixteen call ≡ filled (listIn call)
+  unfolding listIn listed
   long-places l =
       let n : ℕ = wordAt call 5 in
       let many : n ≤ length listed = omega (arith, length-append (each (bytesOf 8) (drop 8 call)) (replicate n 0), length-replicate n (let z : ℕ = 0 in z)) in
       sym (take-append-le placesPerJob (take n listed) (replicate placesPerJob 0) (omega (arith, length-take-le n listed many))
       ∙ take-take placesPerJob n listed l ∙ ap (take placesPerJob) sixteen-first
       ∙ take-append-le placesPerJob (sixteen call) tail (omega (arith, sixteen-long)) ∙ take-all placesPerJob (sixteen call) (omega (arith, sixteen-long)))
+
+-- ---- a list for a map
+
+-- so many words have eight bytes each
+each-long : (ws : List ℕ) → length (each (bytesOf 8) ws) ≡ 8 * length ws
+unfolding each
+each-long [] = refl
+each-long (w ∷ ws) = length-append (bytesOf 8 w) (each (bytesOf 8) ws) ∙ omega (arith, bytes-length 8 w, each-long ws)
+
+-- an entry of the first of two lists
+entry-first : (xs ys : List ℕ) (i : ℕ) → i < length xs → getD (xs ++ ys) i 0 ≡ getD xs i 0
+entry-first [] ys i l = absurd (omega arith)
+entry-first (x ∷ xs) ys zero l = refl
+entry-first (x ∷ xs) ys (suc i) l = entry-first xs ys i (omega arith)
+
+-- byte i of some words is byte i % 8 of word i / 8
+each-byte : (ws : List ℕ) (i : ℕ) → i < 8 * length ws → getD (each (bytesOf 8) ws) i 0 ≡ getD ws (i / 8) 0 / 2 ^ (8 * (i % 8)) % 256
+unfolding each
+each-byte [] i l = absurd (omega arith)
+each-byte (w ∷ ws) i l = go (decLe 8 i) (each-byte ws (i - 8))
+  where
+    rest : List ℕ
+    rest = each (bytesOf 8) ws
+
+    go : Dec (8 ≤ i) → (i - 8 < 8 * length ws → getD rest (i - 8) 0 ≡ getD ws ((i - 8) / 8) 0 / 2 ^ (8 * ((i - 8) % 8)) % 256)
+        → getD (bytesOf 8 w ++ rest) i 0 ≡ getD (w ∷ ws) (i / 8) 0 / 2 ^ (8 * (i % 8)) % 256
+    go (no s) ih =
+        let here : i / 8 ≡ 0 = omega arith in
+        let same : i % 8 ≡ i = omega arith in
+        rw (here, same) (entry-first (bytesOf 8 w) rest i (omega (arith, bytes-length 8 w)) ∙ bytes-at 8 w i (omega arith))
+    go (yes b) ih =
+        let past : i ≡ length (bytesOf 8 w) + (i - 8) = omega (arith, bytes-length 8 w) in
+        let next : i / 8 ≡ suc ((i - 8) / 8) = omega arith in
+        let same : i % 8 ≡ (i - 8) % 8 = omega arith in
+        rw (next, same) (ap (λ (k : ℕ). getD (bytesOf 8 w ++ rest) k 0) past ∙ getD-append-add (bytesOf 8 w) rest (i - 8) 0 ∙ ih (omega arith))
+
+-- the bytes of words 8 to 15
+abbrev pub bytesIn : List ℕ → List ℕ
+bytesIn call = each (bytesOf 8) (drop 8 call)
+
+module _ (call : List ℕ) (h : length call ≡ callWords) where
+  -- there are 64
+  pub bytes-64 : length (bytesIn call) ≡ 64
+  bytes-64 = each-long (drop 8 call) ∙ omega (arith, length-drop 8 call)
+
+  -- byte i is one of word 8 + i / 8
+  pub byte-in : (i : ℕ) → i < 64 → getD (bytesIn call) i 0 ≡ wordAt call (8 + i / 8) / 2 ^ (8 * (i % 8)) % 256
+  byte-in i l =
+      each-byte (drop 8 call) i (omega (arith, length-drop 8 call)) ∙ ap (λ (w : ℕ). w / 2 ^ (8 * (i % 8)) % 256) (getD-drop 8 call (i / 8) 0)
+
+  -- a call's list: these bytes begin with it, or it is too long for a map
+  pub list-named : Named (wordAt call 5) (bytesIn call) (listIn call)
+  unfolding listIn
+  list-named = record {
+    long = sym (places-length call);
+    held = λ l. sym (take-append-le (wordAt call 5) (bytesIn call) (replicate (wordAt call 5) 0) l);
+    past = λ l. omega (arith, bytes-64, l);
+  }
 
 -- ---- the calls of a list
 

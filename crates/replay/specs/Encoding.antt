@@ -9,7 +9,7 @@ use Rattle.rules.specs.Basics.{all, each, from}
 use Rattle.rules.specs.Records.{bytesOf, placesPerJob, policy}
 use Rattle.rules.specs.Decisions.{Decision, refuse, accept, isAccepted, acceptedIn}
 use Rattle.rules.specs.Calls.{Answer, numbers}
-use Rattle.rules.specs.Book.{Call, request, release, install, rebind, clear, freshTable}
+use Rattle.rules.specs.Book.{Call, request, release, install, rebind, clear, freshTable, keepNodes, setMap}
 use Rattle.rules.specs.Journal.{Kind, request′, release′, rebind′, install′, clear′, unknownKind, kindOf}
 
 -- a call is sixteen words
@@ -21,8 +21,8 @@ abbrev pub wordAt : List ℕ → ℕ → ℕ
 wordAt call k = getD call k 0
 
 -- a list of word 5's length stands in words 8 to 15, "one byte each, lowest byte first"; entries past the 64th are zero
-unfoldable pub placesIn : List ℕ → List ℕ
-placesIn call = take (wordAt call 5) (each (bytesOf 8) (drop 8 call) ++ replicate (wordAt call 5) 0)
+unfoldable pub listIn : List ℕ → List ℕ
+listIn call = take (wordAt call 5) (each (bytesOf 8) (drop 8 call) ++ replicate (wordAt call 5) 0)
 
 -- the first sixteen places of a list, filled up with zeros
 abbrev pub filled : List ℕ → List ℕ
@@ -35,20 +35,22 @@ unfoldable pub callOf : Kind → List ℕ → Decision Call
 callOf request′ call = accept (request (wordAt call 1) (wordAt call 2))
 callOf release′ call = accept (release (wordAt call 1) (wordAt call 2))
 callOf rebind′ call = accept (rebind (wordAt call 1) (wordAt call 2))
-callOf install′ call = accept (install (wordAt call 1) (policy (wordAt call 2) (wordAt call 3) (wordAt call 4) (placesIn call)))
+callOf install′ call = accept (install (wordAt call 1) (policy (wordAt call 2) (wordAt call 3) (wordAt call 4) (listIn call)))
 callOf clear′ call = accept (clear (wordAt call 1))
 callOf unknownKind call = refuse 13
 
--- the kinds from 16 on, which the journal has not: 16 is M-100's fresh table, of which no other word is read
+-- the kinds from 16 on, which the journal has not: 16 is M-100's fresh table, of which no other word is read; 17 and 18 are M-103's: the
+-- nodes that the job of word 1 keeps, and its map
 abbrev pub ownKinds : ℕ
 ownKinds = 16
 
-unfoldable pub ownCall : ℕ → Decision Call
-ownCall k = getD (accept freshTable ∷ []) k (refuse 13)
+unfoldable pub ownCall : List ℕ → ℕ → Decision Call
+ownCall call k =
+    getD (accept freshTable ∷ accept (keepNodes (wordAt call 1) (listIn call)) ∷ accept (setMap (wordAt call 1) (listIn call)) ∷ []) k (refuse 13)
 
 -- the call that sixteen words say
 unfoldable pub callIn : List ℕ → Decision Call
-callIn call = cond (ltb (wordAt call 0) ownKinds) (callOf (kindOf (wordAt call 0)) call) (ownCall (wordAt call 0 - ownKinds))
+callIn call = cond (ltb (wordAt call 0) ownKinds) (callOf (kindOf (wordAt call 0)) call) (ownCall call (wordAt call 0 - ownKinds))
 
 -- the words of call i, and how many calls there are
 abbrev pub wordsOf : List ℕ → ℕ → List ℕ
@@ -77,5 +79,5 @@ answerWord a = packed (numbers a)
 
 -- for a proof that computes: `unfolding openEncoding` opens every definition of this file
 unfoldable pub openEncoding : Unit {0}
-unfolding placesIn callOf ownCall callIn callsTo callsOk answerWord
+unfolding listIn callOf ownCall callIn callsTo callsOk answerWord
 openEncoding = tt

@@ -8,6 +8,7 @@ use Rattle.rules.specs.Basics.{openBasics}
 use Rattle.rules.specs.Machine.{openMachine}
 use Rattle.rules.specs.Masks.{openMasks}
 use Rattle.rules.specs.Records.{openRecords}
+use Rattle.rules.specs.Maps.{openMaps, bytesFor}
 use Rattle.rules.specs.SearchOrder.{openSearchOrder}
 use Rattle.rules.specs.Decisions.{refuse, accept}
 use Rattle.rules.specs.Calls.{openCalls, Tables, tablesOf}
@@ -47,20 +48,20 @@ no r = r + 255 * 2 ^ 8 + 4294967295 * 2 ^ 32
 story-run : onReplay machineA (start machineA) story (replicate 10 7)
     ≡ run (accept 9)
     (tablesOf (0 ∷ 0 ∷ 1 ∷ 1 ∷ 1 ∷ 1 ∷ []) ((5 + 3 * 2 ^ 16 + 1 * 2 ^ 24) ∷ 0 ∷ 15 ∷ 0 ∷ (3 + 3 * 256 + 1 * 256 * 256) ∷ 0 ∷ [])
-    (2 ∷ 0 ∷ 0 ∷ 0 ∷ []))
+    (2 ∷ 0 ∷ 0 ∷ 0 ∷ []) (start machineA .maps))
     (no 0 ∷ no 0 ∷ page 3 4 ∷ page 3 5 ∷ page 1 2 ∷ page 1 3 ∷ no 8 ∷ page 3 5 ∷ page 3 5 ∷ 7 ∷ [])
-unfolding openBasics openMachine openMasks openRecords openSearchOrder openCalls openBook openEncoding openReplay
+unfolding openBasics openMachine openMasks openRecords openMaps openSearchOrder openCalls openBook openEncoding openReplay
 story-run = refl
 
 -- held pages, one past the last, and counts that are wrong
 abbrev used : Tables
-used = tablesOf (1 ∷ 255 ∷ 0 ∷ 0 ∷ 9 ∷ 1 ∷ 7 ∷ []) (replicate 6 0) (0 ∷ 9 ∷ 9 ∷ 1 ∷ [])
+used = tablesOf (1 ∷ 255 ∷ 0 ∷ 0 ∷ 9 ∷ 1 ∷ 7 ∷ []) (replicate 6 0) (0 ∷ 9 ∷ 9 ∷ 1 ∷ []) (replicate 64 0)
 
--- kind 16 is a fresh table, whatever its other words are; kind 17 is unknown
+-- kind 16 is a fresh table, whatever its other words are, and whatever the maps hold; kind 19 is unknown
 fresh-run : (onReplay machineA used (call 16 99 1 2 3 4 5) (7 ∷ 7 ∷ [])
-    ≡ run (accept 1) (tablesOf (replicate 6 0 ++ (7 ∷ [])) (replicate 6 0) (machineA .pageCounts)) (no 0 ∷ 7 ∷ []))
-    × (onReplay machineA used (call 17 0 0 0 0 0 0) (7 ∷ 7 ∷ []) ≡ run (refuse 13) used (7 ∷ 7 ∷ []))
-unfolding openBasics openMachine openMasks openRecords openSearchOrder openCalls openBook openEncoding openReplay
+    ≡ run (accept 1) (tablesOf (replicate 6 0 ++ (7 ∷ [])) (replicate 6 0) (machineA .pageCounts) (used .maps)) (no 0 ∷ 7 ∷ []))
+    × (onReplay machineA used (call 19 0 0 0 0 0 0) (7 ∷ 7 ∷ []) ≡ run (refuse 13) used (7 ∷ 7 ∷ []))
+unfolding openBasics openMachine openMasks openRecords openMaps openSearchOrder openCalls openBook openEncoding openReplay
 fresh-run = (refl, refl)
 
 -- refused, and nothing changes
@@ -69,11 +70,21 @@ Untouched words room r = onReplay machineA (start machineA) words (replicate roo
 
 -- a list that is cut short, an unknown kind, and an output that is too short
 refused-whole : Untouched (1 ∷ story) 10 13 × Untouched (story ++ call 6 0 0 0 0 0 0) 10 13 × Untouched story 8 11
-unfolding openBasics openMachine openRecords openCalls openEncoding openReplay
+unfolding openBasics openMachine openRecords openMaps openCalls openEncoding openReplay
 refused-whole = (refl, refl, refl)
 
 -- an install may say any number of places: 16 are taken, more are refused by the install itself, even more than there are words for
 any-length : onReplay machineA (start machineA) (call 3 0 15 0 0 0 0 ++ call 4 0 5 0 0 17 0 ++ call 4 0 5 0 0 65 0 ++ call 4 0 5 3 0 65 0) (replicate 4 7)
-    ≡ run (accept 4) (tablesOf (replicate 6 0) (0 ∷ 0 ∷ 15 ∷ 0 ∷ 0 ∷ 0 ∷ []) (machineA .pageCounts)) (no 0 ∷ no 6 ∷ no 6 ∷ no 5 ∷ [])
-unfolding openBasics openMachine openMasks openRecords openSearchOrder openCalls openBook openEncoding openReplay
+    ≡ run (accept 4) (tablesOf (replicate 6 0) (0 ∷ 0 ∷ 15 ∷ 0 ∷ 0 ∷ 0 ∷ []) (machineA .pageCounts) (start machineA .maps)) (no 0 ∷ no 6 ∷ no 6 ∷ no 5 ∷ [])
+unfolding openBasics openMachine openMasks openRecords openMaps openSearchOrder openCalls openBook openEncoding openReplay
 any-length = refl
+
+-- M-103: kind 18 sets the map 3, 1; kind 17 keeps its entry 1; a list that falls, one of no numbers and one of 65 are 15, never 13
+abbrev mapping : List ℕ
+mapping = call 18 0 0 0 0 2 (3 + 1 * 256) ++ call 17 0 0 0 0 2 1 ++ call 17 0 0 0 0 0 0 ++ call 18 0 0 0 0 65 0 ++ call 17 0 0 0 0 1 1
+
+map-run : onReplay machineA (start machineA) mapping (replicate 5 7)
+    ≡ run (accept 5) (tablesOf (replicate 6 0) (replicate 6 0) (machineA .pageCounts) (bytesFor (1 ∷ [])))
+    (no 0 ∷ no 15 ∷ no 15 ∷ no 15 ∷ no 0 ∷ [])
+unfolding openBasics openMachine openMasks openRecords openMaps openSearchOrder openCalls openBook openEncoding openReplay
+map-run = refl

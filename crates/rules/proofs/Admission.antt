@@ -8,16 +8,17 @@ use mathlib.Core.Bool.{Bool, true, false, not, true≢false}
 use mathlib.Core.Option.{Option, none, some}
 use mathlib.Core.List.{List}
 use native.Mathlib.Omega.{arith}
-use borrow.Author.Tests.{eqb-true, eqb-false, ltb-true, lt-ltb}
+use borrow.Author.Tests.{eqb-true, eqb-false}
 use lib.ListN.{getD}
 use lib.Dec.{eqb}
 use Rattle.rules.specs.Basics.{any}
 use Rattle.rules.specs.Machine.{Machine, nodeCount, pagesOf}
 use Rattle.rules.specs.Records.{Record, recordAt, wellFormed}
+use Rattle.rules.specs.Maps.{applicationNode}
 use Rattle.rules.specs.SearchOrder.{Try, freePages, hasRoom, pickPage, counted, chosen}
-use Rattle.rules.specs.Decisions.{Decision, refuse, accept, unless, then}
-use Rattle.rules.specs.Calls.{granted, refused, Tables, Change, granting, applied, isJob, isCpu, requestTablesOk, admitted, orderOf, serve}
-use Rattle.rules.specs.Calls.{requestDecision}
+use Rattle.rules.specs.Decisions.{Decision, refuse, accept, then}
+use Rattle.rules.specs.Calls.{granted, refused, Tables, Change, granting, applied, isJob, isCpu, requestTablesOk}
+use Rattle.rules.specs.Calls.{isMapped, mapOf, admitted, orderOf, serve, requestDecision}
 use Rattle.rules.specs.Book.{request, decision, step}
 use Rattle.rules.proofs.Lists.{_∈_, fails, any-false, none-any, empty-keep, FirstOf, first-keep, keep-first, first-none}
 use Rattle.rules.proofs.Pages.{PageOf, member-page, page-member}
@@ -53,10 +54,11 @@ module _ (counts ledger : List ℕ) (n : ℕ) where
 
 -- ---- a request's tests
 
--- "request 1, 2, 3, 4": a request that passes these tests
+-- "request 1, 2, 3, 4", and M-103's 15: a request that passes these tests
 pub record Passes (m : Machine) (t : Tables) (j k : ℕ) : Type 0 where
   pub tablesOk : requestTablesOk m t ≡ true
   pub job : isJob (t .records) j ≡ true
+  pub mapped : isMapped (nodeCount m) t j ≡ true
   pub cpu : isCpu (m .cpuNodes) k ≡ true
   pub formed : wellFormed (nodeCount m) (recordAt (t .records) j) ≡ true
 
@@ -70,22 +72,24 @@ module _ (m : Machine) (t : Tables) (j k : ℕ) where
   admitted-passes e =
       let a = passed (requestTablesOk m t) 1 _ e in
       let b = passed (isJob (t .records) j) 2 _ (a .1) in
-      let c = passed (isCpu (m .cpuNodes) k) 3 _ (b .1) in
-      record { tablesOk = a .0; job = b .0; cpu = c .0; formed = passed formed 4 _ (c .1) .0 }
+      let c = passed (isMapped (nodeCount m) t j) 15 _ (b .1) in
+      let d = passed (isCpu (m .cpuNodes) k) 3 _ (c .1) in
+      record { tablesOk = a .0; job = b .0; mapped = c .0; cpu = d .0; formed = passed formed 4 _ (d .1) .0 }
 
   -- and one that passes them is
   pub passes-admitted : Passes m t j k → admitted m t j k ≡ accept (recordAt (t .records) j)
   unfolding admitted
-  passes-admitted p = rw (p .tablesOk, p .job, p .cpu, p .formed)
+  passes-admitted p = rw (p .tablesOk, p .job, p .mapped, p .cpu, p .formed)
 
-  -- each of these tests refuses with one of 1 to 4
-  not-later : (q : ℕ) → 4 < q → (d : Decision Record) → admitted m t j k ≡ d → d ≡ refuse q → ⊥
+  -- each of these tests refuses with one of 1 to 4, or 15
+  not-later : (q : ℕ) → 4 < q → q < 15 → (d : Decision Record) → admitted m t j k ≡ d → d ≡ refuse q → ⊥
   unfolding admitted formed
-  not-later q l d e z =
+  not-later q l u d e z =
       let a = passed-to (requestTablesOk m t) 1 _ (e ∙ z) (λ y. omega arith) in
       let b = passed-to (isJob (t .records) j) 2 _ (a .1) (λ y. omega arith) in
-      let c = passed-to (isCpu (m .cpuNodes) k) 3 _ (b .1) (λ y. omega arith) in
-      let d = passed-to formed 4 _ (c .1) (λ y. omega arith) in
+      let c = passed-to (isMapped (nodeCount m) t j) 15 _ (b .1) (λ y. omega arith) in
+      let d = passed-to (isCpu (m .cpuNodes) k) 3 _ (c .1) (λ y. omega arith) in
+      let f = passed-to formed 4 _ (d .1) (λ y. omega arith) in
       let n : _≡_ {A = ℕ} 0 1 = cc in
       omega arith
 
@@ -122,7 +126,7 @@ module _ (m : Machine) (t : Tables) (j k : ℕ) where
     wrongly : (s : Try) → chosen (t .free) (orderOf m t j k) ≡ some s → hasRoom (m .pageCounts) (t .ledger) (s .node) ≡ false
         → step m t (request j k) .answer ≡ refused 14 → Searched
     served : (s : Try) → chosen (t .free) (orderOf m t j k) ≡ some s → hasRoom (m .pageCounts) (t .ledger) (s .node) ≡ true
-        → step m t (request j k) .answer ≡ granted (s .node) (pickPage (m .pageCounts) (t .ledger) j (s .node)) → Searched
+        → step m t (request j k) .answer ≡ granted (applicationNode (mapOf t j) (s .node)) (pickPage (m .pageCounts) (t .ledger) j (s .node)) → Searched
 
   -- each request that passes 1 to 4 is one of these
   pub searched : Passes m t j k → Searched
@@ -138,19 +142,19 @@ module _ (m : Machine) (t : Tables) (j k : ℕ) where
       go (some s) e = in-node s e (hasRoom (m .pageCounts) (t .ledger) (s .node)) refl
 
   -- "Order: request 1, 2, 3, 4", 14, "8": a request that is refused with a later number than 4 passes 1 to 4
-  later-passes : (q : ℕ) → 4 < q → step m t (request j k) .answer ≡ refused q → Passes m t j k
+  later-passes : (q : ℕ) → 4 < q → q < 15 → step m t (request j k) .answer ≡ refused q → Passes m t j k
   unfolding step decision applied requestDecision
-  later-passes q l e = go (admitted m t j k) refl e
+  later-passes q l u e = go (admitted m t j k) refl e
     where
       go : (d : Decision Record) → admitted m t j k ≡ d
           → applied t (then d (λ r. serve (m .pageCounts) t j (chosen (t .free) (orderOf m t j k)))) .answer ≡ refused q → Passes m t j k
-      go (refuse y) f e = absurd (not-later m t j k q l (refuse y) f (cc))
+      go (refuse y) f e = absurd (not-later m t j k q l u (refuse y) f (cc))
       go (accept r) f e = admitted-passes m t j k f
 
   -- M-100: "8, which then means every node in the order counted 0": a request is refused 8 exactly when it passes 1 to 4 and that is so
   pub refused-8 : (step m t (request j k) .answer ≡ refused 8) ↔ (Passes m t j k × ((s : Try) → s ∈ orderOf m t j k → counted (t .free) (s .node) ≡ false))
   unfolding chosen
-  refused-8 = (λ e. let p = later-passes 8 (omega arith) e in (p, none-counted e (searched p)), λ h. back h (searched (h .0)))
+  refused-8 = (λ e. let p = later-passes 8 (omega arith) (omega arith) e in (p, none-counted e (searched p)), λ h. back h (searched (h .0)))
     where
       isCounted : Try → Bool
       isCounted s = counted (t .free) (s .node)
@@ -180,7 +184,7 @@ module _ (m : Machine) (t : Tables) (j k : ℕ) where
   -- a request is refused 14 exactly when it passes 1 to 4 and meets such a node
   pub refused-14 : (step m t (request j k) .answer ≡ refused 14) ↔ (Passes m t j k × MeetsWrongCount)
   unfolding chosen
-  refused-14 = (λ e. let p = later-passes 14 (omega arith) e in (p, meets e (searched p)), λ h. back (h .1) (searched (h .0)))
+  refused-14 = (λ e. let p = later-passes 14 (omega arith) (omega arith) e in (p, meets e (searched p)), λ h. back (h .1) (searched (h .0)))
     where
       meets : step m t (request j k) .answer ≡ refused 14 → Searched → MeetsWrongCount
       meets e (nowhere c a) = absurd (let z : _≡_ {A = ℕ} 14 8 = cc in omega arith)

@@ -1,4 +1,4 @@
--- Each example of the four tables is right. (Files are checked by name, and what they use first: so a rule that breaks an example is refused
+-- Each example of the five tables is right. (Files are checked by name, and what they use first: so a rule that breaks an example is refused
 -- at the table, which computes, before any proof.)
 -- Assumes nothing.
 use mathlib.Core.Path.{_≡_, refl}
@@ -9,6 +9,7 @@ use Rattle.rules.specs.Examples as marked
 use Rattle.rules.specs.MoreExamples as more
 use Rattle.rules.specs.CountExamples as counts
 use Rattle.rules.specs.NearExamples as nears
+use Rattle.rules.specs.MapExamples as maps
 use Rattle.rules.proofs.Lists.{_∈_, all-true}
 
 -- a computed test that holds
@@ -31,3 +32,7 @@ counts-right h = all-true counts.right (is-true _ counts.all-right) h
 -- M-102 by examples
 pub near-right : {e : nears.Example} → e ∈ nears.table → nears.right e ≡ true
 near-right h = all-true nears.right (is-true _ nears.all-right) h
+
+-- M-103 by examples
+pub maps-right : {e : maps.Example} → e ∈ (maps.turns ++ maps.limits ++ maps.badMaps ++ maps.settings) → maps.right e ≡ true
+maps-right h = all-true maps.right (is-true _ maps.all-right) h

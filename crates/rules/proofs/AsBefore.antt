@@ -1,6 +1,6 @@
 -- M-100: "If the counts match the page table at entry, every call answers as before and they match afterwards."
 -- Assumes nothing.
-use Prim.Native.Nat.{ℕ, _+_, _-_, _≤_, _<_}
+use Prim.Native.Nat.{ℕ, _+_, _-_, _<_}
 use mathlib.Core.Path.{_≡_, refl, sym, ap, ap₂, subst, _∙_}
 use mathlib.Core.Logic.{_↔_, _≢_}
 use mathlib.Core.Bool.{Bool, true, false, _&&_, true≢false}
@@ -9,34 +9,38 @@ use mathlib.Core.List.{List, [], _∷_, _++_}
 use native.Mathlib.Omega.{arith}
 use borrow.Author.Tests.{eq-eqb, le-leb, leb-true}
 use lib.ListN.{length, getD, drop, set, replicate}
-use Rattle.rules.specs.Basics.{any, from, sum}
-use Rattle.rules.specs.Machine.{Machine, nodeCount, nodesOk, pagesOk, machineOk, pageTableOk, nodeOfPage}
-use Rattle.rules.specs.Records.{Record, jobTableOk, recordAt, wellFormed}
+use Rattle.rules.specs.Basics.{sum}
+use Rattle.rules.specs.Machine.{Machine, nodeCount, machineOk, pageTableOk, nodeOfPage}
+use Rattle.rules.specs.Records.{Record, recordAt, wellFormed}
 use Rattle.rules.specs.SearchOrder.{Try, hasRoom, pickPage, counted, chosen}
 use Rattle.rules.specs.Decisions.{Decision, refuse, accept, unless, then}
-use Rattle.rules.specs.Calls.{Answer, granted, done, refused, Tables, tablesOf, write, Change, afterWrites, afterStores, Outcome, outcome, applied}
+use Rattle.rules.specs.Calls.{Answer, granted, done, refused, Tables, tablesOf, Change, afterWrites, afterStores, afterRemaps}
+use Rattle.rules.specs.Calls.{Outcome, outcome, applied}
 use Rattle.rules.specs.Calls.{granting, freeing, freeingAll}
-use Rattle.rules.specs.Calls.{storing, isJob, isCpu, freeOk, requestTablesOk, freshTablesOk, releaseTablesOk, holds, countFits, admitted, orderOf, serve}
-use Rattle.rules.specs.Calls.{requestDecision, releaseDecision, freshDecision, installDecision, rebindDecision, clearDecision, onFresh}
-use Rattle.rules.specs.Book.{Call, request, release, install, rebind, clear, freshTable, decision, step, answers, final}
+use Rattle.rules.specs.Calls.{isJob, isCpu, isMapped, freeOk, jobsOk, requestTablesOk, freshTablesOk, releaseTablesOk, holds, countFits, admitted}
+use Rattle.rules.specs.Calls.{orderOf, serve, requestDecision, releaseDecision, freshDecision, installDecision, rebindDecision, clearDecision}
+use Rattle.rules.specs.Calls.{keepDecision, setMapDecision, onFresh}
+use Rattle.rules.specs.Book.{Call, request, release, install, rebind, clear, freshTable, keepNodes, setMap, decision, step, answers, final}
 use Rattle.rules.specs.FreeCounts.{freeCounts, Matches, recounted, firstWithRoom, serveUncounted, requestUncounted, pagesInOrder}
 use Rattle.rules.specs.FreeCounts.{releaseUncounted, freshUncounted, decisionUncounted, stepUncounted, answersUncounted, finalUncounted}
-use Rattle.rules.proofs.Lists.{_∈_, FirstOf, first-keep, keep-first, first-member, entry-same}
+use Rattle.rules.proofs.Lists.{_∈_, first-keep, keep-first, entry-same}
 use Rattle.rules.proofs.Admission.{FreePage, no-room, Passes, Searched, nowhere, wrongly, served, searched, refused-8, refused-14}
 use Rattle.rules.proofs.Pages.{PageOf, node-page}
-use Rattle.rules.proofs.Calls.{in-table, installs, rebinds, clears, held-page, picked-lowest, Granted, release-14}
+use Rattle.rules.proofs.Calls.{in-table, installs, rebinds, clears, keepings, setMaps, held-page, picked-lowest, Granted, release-14}
 use Rattle.rules.proofs.InOrder.{PagesInOrder, pages-in-order}
 use Rattle.rules.proofs.FreeCounts.{free-counts-length, counted-room, chosen-with-room, count-granted, count-released, count-within}
 use Rattle.rules.proofs.FreeCounts.{zeros-written, counts-written, all-free}
 
 -- a request's tests, and then the search
-in-chain : {A B : Type 0} (a b c d : Bool) (x : A) (go : A → Decision B)
-    → then (unless a 1 (unless b 2 (unless c 3 (unless d 4 (accept x))))) go ≡ unless a 1 (unless b 2 (unless c 3 (unless d 4 (go x))))
-in-chain false b c d x go = refl
-in-chain true false c d x go = refl
-in-chain true true false d x go = refl
-in-chain true true true false x go = refl
-in-chain true true true true x go = refl
+pub in-chain : {A B : Type 0} (a b c d f : Bool) (x : A) (go : A → Decision B)
+    → then (unless a 1 (unless b 2 (unless c 15 (unless d 3 (unless f 4 (accept x)))))) go
+    ≡ unless a 1 (unless b 2 (unless c 15 (unless d 3 (unless f 4 (go x)))))
+in-chain false b c d f x go = refl
+in-chain true false c d f x go = refl
+in-chain true true false d f x go = refl
+in-chain true true true false f x go = refl
+in-chain true true true true false x go = refl
+in-chain true true true true true x go = refl
 
 module _ (counts : List ℕ) (t : Tables) (a : Matches counts t) where
   -- a decision of the rules that does what one of the law without counts does
@@ -49,24 +53,25 @@ module _ (counts : List ℕ) (t : Tables) (a : Matches counts t) where
 
   same-refusal : (r : ℕ) → Same (refuse r) (refuse r)
   unfolding applied
-  same-refusal r = ap (λ (f : List ℕ). outcome (refused r) (tablesOf (t .ledger) (t .records) f)) a
+  same-refusal r = ap (λ (f : List ℕ). outcome (refused r) (tablesOf (t .ledger) (t .records) f (t .maps))) a
 
   -- the same change: the counts that it sets are those of the page table that it leaves
   same-change : (x : Change) → afterWrites (t .free) (x .recounts) ≡ freeCounts counts (afterWrites (t .ledger) (x .writes)) → Same (accept x) (accept x)
   unfolding applied
   same-change x e =
-      ap (λ (f : List ℕ). outcome (x .answer) (tablesOf (afterWrites (t .ledger) (x .writes)) (afterStores (t .records) (x .stores)) f)) e
+      ap (λ (f : List ℕ). outcome (x .answer)
+      (tablesOf (afterWrites (t .ledger) (x .writes)) (afterStores (t .records) (x .stores)) f (afterRemaps (t .maps) (x .remaps)))) e
 
   -- the same test, and then the same
   same-unless : (b : Bool) (r : ℕ) (d e : Decision Change) → (b ≡ true → Same d e) → Same (unless b r d) (unless b r e)
   same-unless true r d e h = h refl
   same-unless false r d e h = same-refusal r
 
-  -- a call that stores a record leaves page table and counts
-  same-stored : (d : Decision Change) → ((x : Change) → d ≡ accept x → (j : ℕ) × (r : Record) × (x ≡ storing j r)) → Same d d
+  -- a call that stores a record or sets a map leaves page table and counts
+  same-stored : (d : Decision Change) → ((x : Change) → d ≡ accept x → (x .writes ≡ []) × (x .recounts ≡ [])) → Same d d
   unfolding afterWrites
   same-stored (refuse r) h = same-refusal r
-  same-stored (accept x) h = let s = h x refl in rw (s .2) (same-change (storing (s .0) (s .1)) a)
+  same-stored (accept x) h = let s = h x refl in same-change x (rw (s .0, s .1) a)
 
   -- ---- request
 
@@ -106,10 +111,10 @@ module _ (counts : List ℕ) (t : Tables) (a : Matches counts t) where
     unfolding countFits
     fits = rw a (le-leb _ _ (count-within counts (t .ledger) (nodeOfPage counts p) p page-there in-ledger not-free))
 
-    freed-same : Same (unless (countFits counts (t .free) (nodeOfPage counts p)) 14 (accept (freeing counts (t .free) p))) (accept (freeing counts (t .free) p))
+    freed-same : Same (unless (countFits counts (t .free) (nodeOfPage counts p)) 14 (accept (freeing counts t j p))) (accept (freeing counts t j p))
     unfolding afterWrites
     freed-same =
-        rw fits (same-change (freeing counts (t .free) p)
+        rw fits (same-change (freeing counts t j p)
         (ap (λ (f : List ℕ). set f (nodeOfPage counts p) (getD f (nodeOfPage counts p) 0 + 1)) a
         ∙ count-released counts (t .ledger) (nodeOfPage counts p) p page-there in-ledger not-free))
 
@@ -127,10 +132,11 @@ module _ (counts : List ℕ) (t : Tables) (a : Matches counts t) where
   unfolding releaseDecision releaseUncounted releaseTablesOk
   release-same j p =
       rw fresh-tested
-      (same-unless (pagesInOrder counts t && jobTableOk (length (t .records))) 1 _ _
+      (same-unless (pagesInOrder counts t && jobsOk (length (t .records)) (length (t .maps))) 1 _ _
       (λ ok. same-unless (isJob (t .records) j) 2 _ _
-      (λ job. same-unless (holds counts (t .ledger) j p) 10 _ _
-      (λ held. let h = held-page counts (t .ledger) j p held in freed-same j p (h .0) (h .1)))))
+      (λ job. same-unless (isMapped (length counts) t j) 15 _ _
+      (λ good. same-unless (holds counts (t .ledger) j p) 10 _ _
+      (λ held. let h = held-page counts (t .ledger) j p held in freed-same j p (h .0) (h .1))))))
 
   -- ---- the fresh table
 
@@ -153,16 +159,18 @@ request-same : (m : Machine) (t : Tables) (a : Matches (m .pageCounts) t) (j k :
 unfolding requestDecision requestUncounted admitted requestTablesOk
 request-same m t a j k =
     let counts = m .pageCounts in
-    let tables = machineOk m && pageTableOk counts (length (t .ledger)) && jobTableOk (length (t .records)) in
+    let tables = machineOk m && pageTableOk counts (length (t .ledger)) && jobsOk (length (t .records)) (length (t .maps)) in
+    let mapped = isMapped (nodeCount m) t j in
     let formed = wellFormed (nodeCount m) (recordAt (t .records) j) in
     let search : Record → Decision Change = λ r. serve counts t j (chosen (t .free) (orderOf m t j k)) in
-    let chain = in-chain tables (isJob (t .records) j) (isCpu (m .cpuNodes) k) formed (recordAt (t .records) j) search in
+    let chain = in-chain tables (isJob (t .records) j) mapped (isCpu (m .cpuNodes) k) formed (recordAt (t .records) j) search in
     rw (one-each counts t a, and-true-right counts t a tables, chain)
     (same-unless counts t a tables 1 _ _
     (λ ok. same-unless counts t a (isJob (t .records) j) 2 _ _
-    (λ job. same-unless counts t a (isCpu (m .cpuNodes) k) 3 _ _
+    (λ job. same-unless counts t a mapped 15 _ _
+    (λ good. same-unless counts t a (isCpu (m .cpuNodes) k) 3 _ _
     (λ cpu. same-unless counts t a formed 4 _ _
-    (λ f. served-same counts t a j (orderOf m t j k))))))
+    (λ f. served-same counts t a j (orderOf m t j k)))))))
 
 -- with counts that match each call answers and leaves page table and job table as the law without counts says, and the counts of that page
 -- table
@@ -171,12 +179,17 @@ unfolding step decision stepUncounted decisionUncounted
 as-before m t (request j k) a = request-same m t a j k
 as-before m t (release j p) a = release-same (m .pageCounts) t a j p
 as-before m t (install j p) a =
-    same-stored (m .pageCounts) t a (installDecision (nodeCount m) (t .records) j p) (λ x e. (j, _, installs (nodeCount m) (t .records) j p e .1))
+    same-stored (m .pageCounts) t a (installDecision (nodeCount m) t j p) (λ x e. rw (installs (nodeCount m) t j p e .1) (refl, refl))
 as-before m t (rebind j allowed) a =
-    same-stored (m .pageCounts) t a (rebindDecision (nodeCount m) (t .records) j allowed) (λ x e. (j, _, rebinds (nodeCount m) (t .records) j allowed e .1))
+    same-stored (m .pageCounts) t a (rebindDecision (nodeCount m) (t .records) j allowed)
+    (λ x e. rw (rebinds (nodeCount m) (t .records) j allowed e .1) (refl, refl))
 as-before m t (clear j) a =
-    same-stored (m .pageCounts) t a (clearDecision (nodeCount m) (t .records) j) (λ x e. (j, _, clears (nodeCount m) (t .records) j e .1))
+    same-stored (m .pageCounts) t a (clearDecision (nodeCount m) (t .records) j) (λ x e. rw (clears (nodeCount m) (t .records) j e .1) (refl, refl))
 as-before m t freshTable a = fresh-same (m .pageCounts) t a
+as-before m t (keepNodes j kept) a =
+    same-stored (m .pageCounts) t a (keepDecision (nodeCount m) t j kept) (λ x e. rw (keepings (nodeCount m) t j kept e .1) (refl, refl))
+as-before m t (setMap j nodes) a =
+    same-stored (m .pageCounts) t a (setMapDecision (nodeCount m) t j nodes) (λ x e. rw (setMaps (nodeCount m) t j nodes e .1) (refl, refl))
 
 -- "and they match afterwards"
 pub matches-kept : (m : Machine) (t : Tables) (c : Call) → Matches (m .pageCounts) t → Matches (m .pageCounts) (step m t c .tables)
@@ -209,11 +222,11 @@ final-as-before m t (c ∷ cs) a =
 -- "A fresh table and its counts are made by one call": whatever the tables held, every page is free afterwards, what stands behind the pages
 -- stays, and the counts are the page counts
 pub fresh-is : (counts : List ℕ) (t : Tables) → freshTablesOk counts (length (t .ledger)) (length (t .free)) ≡ true
-    → onFresh counts t ≡ outcome done (tablesOf (replicate (sum counts) 0 ++ drop (sum counts) (t .ledger)) (t .records) counts)
-unfolding onFresh applied freshDecision afterStores
+    → onFresh counts t ≡ outcome done (tablesOf (replicate (sum counts) 0 ++ drop (sum counts) (t .ledger)) (t .records) counts (t .maps))
+unfolding onFresh applied freshDecision afterStores afterRemaps
 fresh-is counts t ok =
     let o = pages-in-order counts _ _ ok in
-    rw ok (ap₂ (λ (l f : List ℕ). outcome done (tablesOf l (t .records) f)) (zeros-written (t .ledger) (sum counts) (o .fits))
+    rw ok (ap₂ (λ (l f : List ℕ). outcome done (tablesOf l (t .records) f (t .maps))) (zeros-written (t .ledger) (sum counts) (o .fits))
     (counts-written counts (t .free) (o .one-each)))
 
 -- so the counts match

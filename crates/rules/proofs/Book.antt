@@ -13,10 +13,11 @@ use lib.ListN.{length, getD, drop, set, replicate, length-set}
 use lib.Seq.{getD-set-same, getD-set-other}
 use Rattle.rules.specs.Basics.{keep, sum, Each}
 use Rattle.rules.specs.Machine.{Machine}
-use Rattle.rules.specs.Calls.{Answer, Tables, tablesOf, Write, afterWrites}
+use Rattle.rules.specs.Calls.{Answer, Tables, Write, afterWrites}
 use Rattle.rules.specs.Book.{Call, decision, step, answers, final}
 use Rattle.rules.specs.Ledger.{writesOf, writes, lastElse, lastWrite, holder, givenTo}
-use Rattle.rules.proofs.Calls.{AtPage, ledger-by-writes, ledger-length, records-length, free-length, writes-at-pages, past-pages-kept}
+use Rattle.rules.proofs.Calls.{AtPage, ledger-by-writes, lengths-kept, writes-at-pages, past-pages-kept}
+use Rattle.rules.proofs.InOrder.{SameLengths, same-lengths, lengths-then}
 
 -- ---- a list of calls in two parts
 
@@ -32,23 +33,11 @@ unfolding final answers
 answers-append m t [] ds = refl
 answers-append m t (c ∷ cs) ds = ap (λ (l : List Answer). step m t c .answer ∷ l) (answers-append m (step m t c .tables) cs ds)
 
--- the page table keeps its length
-pub final-ledger-length : (m : Machine) (t : Tables) (cs : List Call) → length (final m t cs .ledger) ≡ length (t .ledger)
+-- each table keeps its length
+pub final-lengths : (m : Machine) (t : Tables) (cs : List Call) → SameLengths t (final m t cs)
 unfolding final
-final-ledger-length m t [] = refl
-final-ledger-length m t (c ∷ cs) = final-ledger-length m (step m t c .tables) cs ∙ ledger-length m t c
-
--- and so does the job table
-pub final-records-length : (m : Machine) (t : Tables) (cs : List Call) → length (final m t cs .records) ≡ length (t .records)
-unfolding final
-final-records-length m t [] = refl
-final-records-length m t (c ∷ cs) = final-records-length m (step m t c .tables) cs ∙ records-length m t c
-
--- and the table of free counts
-pub final-free-length : (m : Machine) (t : Tables) (cs : List Call) → length (final m t cs .free) ≡ length (t .free)
-unfolding final
-final-free-length m t [] = refl
-final-free-length m t (c ∷ cs) = final-free-length m (step m t c .tables) cs ∙ free-length m t c
+final-lengths m t [] = same-lengths
+final-lengths m t (c ∷ cs) = lengths-then (lengths-kept m t c) (final-lengths m (step m t c .tables) cs)
 
 -- "Bytes past the last page are never changed": by any list of calls, on any tables
 pub past-pages-kept-all : (m : Machine) (t : Tables) (cs : List Call)
@@ -95,7 +84,7 @@ writes-in-table m t [] = tt
 writes-in-table m t (c ∷ cs) =
     in-table-append (length (t .ledger)) (writesOf (decision m t c)) (writes m (step m t c .tables) cs)
     (in-table-at (m .pageCounts) (t .ledger) (writesOf (decision m t c)) (writes-at-pages m t c))
-    (subst (λ (k : ℕ). InTable k (writes m (step m t c .tables) cs)) (ledger-length m t c) (writes-in-table m (step m t c .tables) cs))
+    (subst (λ (k : ℕ). InTable k (writes m (step m t c .tables) cs)) (lengths-kept m t c .ledger) (writes-in-table m (step m t c .tables) cs))
 
 -- ---- whose page a page is
 
@@ -150,10 +139,9 @@ owner (some w) j = go (w .value)
 
 -- "From a page table of zeros, changed only by these calls, a page belongs to a job exactly when the last step that granted or released
 -- it gave it to that job."
-pub page-owner : (m : Machine) (k : ℕ) (records free : List ℕ) (cs : List Call) (p j : ℕ) → let t : Tables = tablesOf (replicate k 0) records free in
-    (getD (final m t cs .ledger) p 0 ≡ j + 1) ↔ (givenTo (lastWrite m t cs p) ≡ some j)
-page-owner m k records free cs p j =
-    let t : Tables = tablesOf (replicate k 0) records free in
+pub page-owner : (m : Machine) (t : Tables) (k : ℕ) → t .ledger ≡ replicate k 0 → (cs : List Call) (p j : ℕ)
+    → (getD (final m t cs .ledger) p 0 ≡ j + 1) ↔ (givenTo (lastWrite m t cs p) ≡ some j)
+page-owner m t k zeros cs p j =
     let e : getD (final m t cs .ledger) p 0 ≡ byteAfter 0 (lastWrite m t cs p) =
-    last-byte m t cs p ∙ ap (λ (b : ℕ). byteAfter b (lastWrite m t cs p)) (zero-byte k p) in
+    last-byte m t cs p ∙ ap (λ (b : ℕ). byteAfter b (lastWrite m t cs p)) (ap (λ (l : List ℕ). getD l p 0) zeros ∙ zero-byte k p) in
     rw e (owner (lastWrite m t cs p) j)

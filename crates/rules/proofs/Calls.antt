@@ -3,7 +3,7 @@
 use Prim.Native.Nat.{ℕ, zero, suc, _+_, _≤_, _<_}
 use mathlib.Core.Path.{_≡_, refl, sym, ap, subst, _∙_}
 use mathlib.Core.Logic.{_↔_, _≢_}
-use mathlib.Core.Bool.{Bool, true, false, not, true≢false}
+use mathlib.Core.Bool.{Bool, true, false, not, _&&_, true≢false}
 use mathlib.Core.Option.{Option, none, some}
 use mathlib.Core.List.{List, [], _∷_, map}
 use native.Mathlib.Omega.{arith}
@@ -13,51 +13,54 @@ use lib.Seq.{length-sets, drop-set-lt}
 use lib.Dec.{ltb}
 use Rattle.rules.specs.Basics.{Each, from, sum}
 use Rattle.rules.specs.Machine.{Machine, nodeCount, pagesOf, nodeOfPage, nodeOfCpu}
-use Rattle.rules.specs.Masks.{bit, has, both, isEmpty, below}
-use Rattle.rules.specs.Records.{Record, Policy, Mode, default, preferred, bind, interleave, list, ring, early, unknownMode, carries, modeOf}
+use Rattle.rules.specs.Masks.{has, isEmpty, below}
+use Rattle.rules.specs.Records.{Record, Policy, Mode, default, preferred, bind, interleave, list, ring, early, unknownMode}
 use Rattle.rules.specs.Records.{recordAt, putRecord, fresh, wellFormed, installed, rebound}
+use Rattle.rules.specs.Maps.{putMap, goodNodes, systemNode, applicationNode, turned, keepsOf}
 use Rattle.rules.specs.SearchOrder.{Try, Plan, nearest, placed, near, tried, target, interleaved, planIn, plan, modeInForce, order}
 use Rattle.rules.specs.SearchOrder.{freePages, hasRoom, pickPage, counted, chosen}
 use Rattle.rules.specs.Decisions.{Decision, refuse, accept, unless}
-use Rattle.rules.specs.Calls.{granted, released, refused, Tables, Write, write, Store, Change, afterWrites, afterStores}
-use Rattle.rules.specs.Calls.{applied, granting, freeing, freeingAll, storing, isJob, freshTablesOk, releaseTablesOk, recordTablesOk, policyKnown}
-use Rattle.rules.specs.Calls.{policyFits, rebindFits, holds, countFits, limitOf, orderOf}
-use Rattle.rules.specs.Calls.{releaseDecision, freshDecision, installDecision, rebindDecision, clearDecision}
-use Rattle.rules.specs.Book.{Call, request, release, install, rebind, clear, freshTable, decision, step}
+use Rattle.rules.specs.Calls.{granted, released, refused, Tables, Write, write, Store, Remap, Change, afterWrites, afterStores, afterRemaps}
+use Rattle.rules.specs.Calls.{applied, granting, freeing, freeingAll, storing, mapping, mapOf, isJob, isMapped, freshTablesOk, releaseTablesOk}
+use Rattle.rules.specs.Calls.{recordTablesOk, mappedTablesOk, policyKnown, installFits, rebindFits, holds, countFits, limitOf, orderOf}
+use Rattle.rules.specs.Calls.{releaseDecision, freshDecision, installDecision, rebindDecision, clearDecision, keepDecision, setMapDecision}
+use Rattle.rules.specs.Book.{Call, request, release, install, rebind, clear, freshTable, keepNodes, setMap, decision, step}
 use Rattle.rules.specs.Ledger.{writesOf}
 use Rattle.rules.proofs.Admission.{FreePage, isFree, Passes, accepted}
-use Rattle.rules.proofs.InOrder.{pages-in-order}
+use Rattle.rules.proofs.InOrder.{SameLengths, pages-in-order}
 use Rattle.rules.proofs.Decisions.{not-accepted, passed, passed-to}
 use Rattle.rules.proofs.Lists.{_∈_, both-true, keep-member, map-member, FirstOf, first-keep, first-member, first-some}
-use Rattle.rules.proofs.Masks.{bit-and, bit-lt}
+use Rattle.rules.proofs.Masks.{both-has}
 use Rattle.rules.proofs.Sorted.{first-least}
 use Rattle.rules.proofs.Near.{near-allowed}
 use Rattle.rules.proofs.Pages.{member-page, page-member, page-lt, page-node}
 
 -- ---- the tests that an accepted call has passed
 
--- "install 1, 2, 4, 5, 7, 6"
-pub record InstallPasses (n : ℕ) (records : List ℕ) (j : ℕ) (p : Policy) : Type 0 where
-  pub tablesOk : recordTablesOk n (length records) ≡ true
-  pub job : isJob records j ≡ true
-  pub formed : wellFormed n (recordAt records j) ≡ true
+-- "install 1, 2", 15, "4, 5, 7, 6"
+pub record InstallPasses (n : ℕ) (t : Tables) (j : ℕ) (p : Policy) : Type 0 where
+  pub tablesOk : mappedTablesOk n (length (t .records)) (length (t .maps)) ≡ true
+  pub job : isJob (t .records) j ≡ true
+  pub mapped : isMapped n t j ≡ true
+  pub formed : wellFormed n (recordAt (t .records) j) ≡ true
   pub known : policyKnown p ≡ true
-  pub allowed : not (isEmpty (recordAt records j .allowed)) ≡ true
-  pub fits : policyFits (carries (modeOf (p .mode))) n (recordAt records j .allowed) p ≡ true
+  pub allowed : not (isEmpty (recordAt (t .records) j .allowed)) ≡ true
+  pub fits : installFits n (mapOf t j) (recordAt (t .records) j .allowed) p ≡ true
 
-pub installs : (n : ℕ) (records : List ℕ) (j : ℕ) (p : Policy) {x : Change} → installDecision n records j p ≡ accept x
-    → InstallPasses n records j p × (x ≡ storing j (installed (recordAt records j) p))
+pub installs : (n : ℕ) (t : Tables) (j : ℕ) (p : Policy) {x : Change} → installDecision n t j p ≡ accept x
+    → InstallPasses n t j p × (x ≡ storing j (installed (recordAt (t .records) j) (turned (mapOf t j) p)))
 unfolding installDecision
-installs n records j p {x} e =
-    let r = recordAt records j in
-    let a = passed (recordTablesOk n (length records)) 1 _ e in
-    let b = passed (isJob records j) 2 _ (a .1) in
-    let c = passed (wellFormed n r) 4 _ (b .1) in
-    let d = passed (policyKnown p) 5 _ (c .1) in
-    let f = passed (not (isEmpty (r .allowed))) 7 _ (d .1) in
-    let g = passed (policyFits (carries (modeOf (p .mode))) n (r .allowed) p) 6 _ (f .1) in
-    let same : x ≡ storing j (installed r p) = cc in
-    (record { tablesOk = a .0; job = b .0; formed = c .0; known = d .0; allowed = f .0; fits = g .0 }, same)
+installs n t j p {x} e =
+    let r = recordAt (t .records) j in
+    let a = passed (mappedTablesOk n (length (t .records)) (length (t .maps))) 1 _ e in
+    let b = passed (isJob (t .records) j) 2 _ (a .1) in
+    let c = passed (isMapped n t j) 15 _ (b .1) in
+    let d = passed (wellFormed n r) 4 _ (c .1) in
+    let f = passed (policyKnown p) 5 _ (d .1) in
+    let g = passed (not (isEmpty (r .allowed))) 7 _ (f .1) in
+    let h = passed (installFits n (mapOf t j) (r .allowed) p) 6 _ (g .1) in
+    let same : x ≡ storing j (installed r (turned (mapOf t j) p)) = cc in
+    (record { tablesOk = a .0; job = b .0; mapped = c .0; formed = d .0; known = f .0; allowed = g .0; fits = h .0 }, same)
 
 -- "rebind 1, 2, 4, 6, 7, 9"
 pub record RebindPasses (n : ℕ) (records : List ℕ) (j allowed : ℕ) : Type 0 where
@@ -92,23 +95,59 @@ clears n records j {x} e =
     let same : x ≡ storing j fresh = cc in
     (b .0, same)
 
--- "release 1, 2, 10", 14
+-- M-103: the tenant's call tests 1, 2, 15
+pub record KeepPasses (n : ℕ) (t : Tables) (j : ℕ) (kept : List ℕ) : Type 0 where
+  pub tablesOk : mappedTablesOk n (length (t .records)) (length (t .maps)) ≡ true
+  pub job : isJob (t .records) j ≡ true
+  pub mapped : isMapped n t j ≡ true
+  pub keeps : keepsOf (mapOf t j) kept ≡ true
+
+pub keepings : (n : ℕ) (t : Tables) (j : ℕ) (kept : List ℕ) {x : Change} → keepDecision n t j kept ≡ accept x
+    → KeepPasses n t j kept × (x ≡ mapping j (map (systemNode (mapOf t j)) kept))
+unfolding keepDecision
+keepings n t j kept {x} e =
+    let a = passed (mappedTablesOk n (length (t .records)) (length (t .maps))) 1 _ e in
+    let b = passed (isJob (t .records) j) 2 _ (a .1) in
+    let c = passed (isMapped n t j && keepsOf (mapOf t j) kept) 15 _ (b .1) in
+    let d = both-true {a = isMapped n t j} (c .0) in
+    let same : x ≡ mapping j (map (systemNode (mapOf t j)) kept) = cc in
+    (record { tablesOk = a .0; job = b .0; mapped = d .0; keeps = d .1 }, same)
+
+-- and so does the administrator's
+pub record SetMapPasses (n : ℕ) (t : Tables) (j : ℕ) (nodes : List ℕ) : Type 0 where
+  pub tablesOk : mappedTablesOk n (length (t .records)) (length (t .maps)) ≡ true
+  pub job : isJob (t .records) j ≡ true
+  pub good : goodNodes n nodes ≡ true
+
+pub setMaps : (n : ℕ) (t : Tables) (j : ℕ) (nodes : List ℕ) {x : Change} → setMapDecision n t j nodes ≡ accept x
+    → SetMapPasses n t j nodes × (x ≡ mapping j nodes)
+unfolding setMapDecision
+setMaps n t j nodes {x} e =
+    let a = passed (mappedTablesOk n (length (t .records)) (length (t .maps))) 1 _ e in
+    let b = passed (isJob (t .records) j) 2 _ (a .1) in
+    let c = passed (goodNodes n nodes) 15 _ (b .1) in
+    let same : x ≡ mapping j nodes = cc in
+    (record { tablesOk = a .0; job = b .0; good = c .0 }, same)
+
+-- "release 1, 2", 15, "10", 14
 pub record ReleasePasses (counts : List ℕ) (t : Tables) (j p : ℕ) : Type 0 where
   pub tablesOk : releaseTablesOk counts t ≡ true
   pub job : isJob (t .records) j ≡ true
+  pub mapped : isMapped (length counts) t j ≡ true
   pub held : holds counts (t .ledger) j p ≡ true
   pub fits : countFits counts (t .free) (nodeOfPage counts p) ≡ true
 
 pub releases : (counts : List ℕ) (t : Tables) (j p : ℕ) {x : Change} → releaseDecision counts t j p ≡ accept x
-    → ReleasePasses counts t j p × (x ≡ freeing counts (t .free) p)
+    → ReleasePasses counts t j p × (x ≡ freeing counts t j p)
 unfolding releaseDecision
 releases counts t j p {x} e =
     let a = passed (releaseTablesOk counts t) 1 _ e in
     let b = passed (isJob (t .records) j) 2 _ (a .1) in
-    let c = passed (holds counts (t .ledger) j p) 10 _ (b .1) in
-    let d = passed (countFits counts (t .free) (nodeOfPage counts p)) 14 _ (c .1) in
-    let same : x ≡ freeing counts (t .free) p = cc in
-    (record { tablesOk = a .0; job = b .0; held = c .0; fits = d .0 }, same)
+    let c = passed (isMapped (length counts) t j) 15 _ (b .1) in
+    let d = passed (holds counts (t .ledger) j p) 10 _ (c .1) in
+    let f = passed (countFits counts (t .free) (nodeOfPage counts p)) 14 _ (d .1) in
+    let same : x ≡ freeing counts t j p = cc in
+    (record { tablesOk = a .0; job = b .0; mapped = c .0; held = d .0; fits = f .0 }, same)
 
 -- the fresh table: 1 alone
 pub freshens : (counts : List ℕ) (t : Tables) {x : Change} → freshDecision counts t ≡ accept x
@@ -119,32 +158,36 @@ freshens counts t {x} e =
     let same : x ≡ freeingAll counts = cc in
     (a .0, same)
 
--- What an accepted call is: a request that is granted, a release of a held page, a fresh table, or a call that stores a record.
+-- What an accepted call is: a request that is granted, a release of a held page, a fresh table, or a call that stores a record or sets a map.
 pub data Accepted (m : Machine) (t : Tables) (c : Call) (x : Change) : Type 0 where
   grants : (j k : ℕ) (s : Try) → c ≡ request j k → Passes m t j k → chosen (t .free) (orderOf m t j k) ≡ some s
       → hasRoom (m .pageCounts) (t .ledger) (s .node) ≡ true → x ≡ granting (m .pageCounts) t j s → Accepted m t c x
-  frees : (j p : ℕ) → c ≡ release j p → ReleasePasses (m .pageCounts) t j p → x ≡ freeing (m .pageCounts) (t .free) p → Accepted m t c x
+  frees : (j p : ℕ) → c ≡ release j p → ReleasePasses (m .pageCounts) t j p → x ≡ freeing (m .pageCounts) t j p → Accepted m t c x
   freesAll : freshTablesOk (m .pageCounts) (length (t .ledger)) (length (t .free)) ≡ true → x ≡ freeingAll (m .pageCounts) → Accepted m t c x
   stores : (j : ℕ) (r : Record) → x ≡ storing j r → Accepted m t c x
+  maps : (j : ℕ) (nodes : List ℕ) → x ≡ mapping j nodes → Accepted m t c x
 
 -- every accepted call is one of these
 pub accepted-is : (m : Machine) (t : Tables) (c : Call) {x : Change} → decision m t c ≡ accept x → Accepted m t c x
 unfolding decision
 accepted-is m t (request j k) e = let a = accepted m t j k e in grants j k (a .1) refl (a .0) (a .2) (a .3) (a .4)
 accepted-is m t (release j p) e = let a = releases (m .pageCounts) t j p e in frees j p refl (a .0) (a .1)
-accepted-is m t (install j p) e = stores j _ (installs (nodeCount m) (t .records) j p e .1)
+accepted-is m t (install j p) e = stores j _ (installs (nodeCount m) t j p e .1)
 accepted-is m t (rebind j allowed) e = stores j _ (rebinds (nodeCount m) (t .records) j allowed e .1)
 accepted-is m t (clear j) e = stores j _ (clears (nodeCount m) (t .records) j e .1)
 accepted-is m t freshTable e = let a = freshens (m .pageCounts) t e in freesAll (a .0) (a .1)
+accepted-is m t (keepNodes j kept) e = maps j _ (keepings (nodeCount m) t j kept e .1)
+accepted-is m t (setMap j nodes) e = maps j nodes (setMaps (nodeCount m) t j nodes e .1)
 
 -- ---- refusals
 
 -- the answer of an accepted call is no refusal
-not-refused : {m : Machine} {t : Tables} {c : Call} {x : Change} → Accepted m t c x → (r : ℕ) → x .answer ≡ refused r → ⊥
+pub not-refused : {m : Machine} {t : Tables} {c : Call} {x : Change} → Accepted m t c x → (r : ℕ) → x .answer ≡ refused r → ⊥
 not-refused (grants j k s a b d h e) r f = let z : _≡_ {A = ℕ} 0 1 = cc in omega arith
 not-refused (frees j p a b e) r f = let z : _≡_ {A = ℕ} 0 1 = cc in omega arith
 not-refused (freesAll a e) r f = let z : _≡_ {A = ℕ} 0 1 = cc in omega arith
 not-refused (stores j x e) r f = let z : _≡_ {A = ℕ} 0 1 = cc in omega arith
+not-refused (maps j x e) r f = let z : _≡_ {A = ℕ} 0 1 = cc in omega arith
 
 -- "Every refusal .. leaves all lent memory unchanged"
 pub refused-same : (m : Machine) (t : Tables) (c : Call) (r : ℕ) → step m t c .answer ≡ refused r → step m t c .tables ≡ t
@@ -172,7 +215,7 @@ writes-length table [] = refl
 writes-length table (w ∷ ws) = writes-length (set table (w .at) (w .value)) ws ∙ length-set table (w .at) (w .value)
 
 -- no call makes the page table longer or shorter
-pub ledger-length : (m : Machine) (t : Tables) (c : Call) → length (step m t c .tables .ledger) ≡ length (t .ledger)
+ledger-length : (m : Machine) (t : Tables) (c : Call) → length (step m t c .tables .ledger) ≡ length (t .ledger)
 ledger-length m t c = ap length (ledger-by-writes m t c) ∙ writes-length (t .ledger) (writesOf (decision m t c))
 
 stores-length : (records : List ℕ) (ss : List Store) → length (afterStores records ss) ≡ length records
@@ -181,7 +224,7 @@ stores-length records [] = refl
 stores-length records (s ∷ ss) = stores-length (putRecord records (s .job) (s .stored)) ss ∙ simp length-sets
 
 -- no call makes the job table longer or shorter
-pub records-length : (m : Machine) (t : Tables) (c : Call) → length (step m t c .tables .records) ≡ length (t .records)
+records-length : (m : Machine) (t : Tables) (c : Call) → length (step m t c .tables .records) ≡ length (t .records)
 unfolding step applied
 records-length m t c = go (decision m t c)
   where
@@ -190,7 +233,7 @@ records-length m t c = go (decision m t c)
     go (accept x) = stores-length (t .records) (x .stores)
 
 -- no call makes the table of free counts longer or shorter
-pub free-length : (m : Machine) (t : Tables) (c : Call) → length (step m t c .tables .free) ≡ length (t .free)
+free-length : (m : Machine) (t : Tables) (c : Call) → length (step m t c .tables .free) ≡ length (t .free)
 unfolding step applied
 free-length m t c = go (decision m t c)
   where
@@ -198,11 +241,26 @@ free-length m t c = go (decision m t c)
     go (refuse r) = refl
     go (accept x) = writes-length (t .free) (x .recounts)
 
--- ---- the search
+remaps-length : (table : List ℕ) (rs : List Remap) → length (afterRemaps table rs) ≡ length table
+unfolding afterRemaps putMap
+remaps-length table [] = refl
+remaps-length table (r ∷ rs) = remaps-length (putMap table (r .job) (r .nodes)) rs ∙ simp length-sets
 
--- a node that two masks share is in the first
-shared-first : (a b k : ℕ) → has (both a b) k ≡ true → has a k ≡ true
-shared-first a b k e = eq-eqb (bit a k) 1 (omega (arith, bit-and a b k, eqb-true (bit (both a b) k) 1 e, bit-lt a k))
+-- no call makes the map table longer or shorter
+maps-length : (m : Machine) (t : Tables) (c : Call) → length (step m t c .tables .maps) ≡ length (t .maps)
+unfolding step applied
+maps-length m t c = go (decision m t c)
+  where
+    go : (d : Decision Change) → length (applied t d .tables .maps) ≡ length (t .maps)
+    go (refuse r) = refl
+    go (accept x) = remaps-length (t .maps) (x .remaps)
+
+-- no call makes any table longer or shorter
+pub lengths-kept : (m : Machine) (t : Tables) (c : Call) → SameLengths t (step m t c .tables)
+lengths-kept m t c =
+    record { ledger = ledger-length m t c; records = records-length m t c; free = free-length m t c; maps = maps-length m t c }
+
+-- ---- the search
 
 -- a plan that looks only at nodes of the limit
 Inside : ℕ → Plan → Type 0
@@ -213,7 +271,7 @@ plan-inside : (mode : Mode) (limit : ℕ) (r : Record) (x : ℕ) → Inside limi
 unfolding planIn interleaved Inside
 plan-inside default limit r x = λ k h. h
 plan-inside preferred limit r x = λ k h. h
-plan-inside bind limit r x = λ k h. shared-first limit (r .effective) k h
+plan-inside bind limit r x = λ k h. both-has limit (r .effective) k h .0
 plan-inside interleave limit r x = go (target (r .effective) (r .turn .cursor))
   where
     go : (o : Option ℕ) → Inside limit (interleaved limit o)
@@ -283,33 +341,40 @@ module _ (m : Machine) (t : Tables) (j k : ℕ) where
         allowed = order-allowed (nodeCount m) (m .distances) (limitOf t j) (recordAt (t .records) j) (nodeOfCpu (m .cpuNodes) k) (first-member f);
       }
 
+-- a grant that is answered with node a of the job's map
+pub record GrantedAs (m : Machine) (t : Tables) (j k a p : ℕ) : Type 0 where
+  pub node : ℕ
+  pub named : applicationNode (mapOf t j) node ≡ a
+  pub grant : Granted m t j k node p
+
 -- a grant, whatever the call, is a request's, and says what the grant of a request says
-pub granted-by : (m : Machine) (t : Tables) (c : Call) {n p : ℕ} → step m t c .answer ≡ granted n p
-    → (j : ℕ) × (k : ℕ) × (c ≡ request j k) × Granted m t j k n p
+pub granted-by : (m : Machine) (t : Tables) (c : Call) {a p : ℕ} → step m t c .answer ≡ granted a p
+    → (j : ℕ) × (k : ℕ) × (c ≡ request j k) × GrantedAs m t j k a p
 unfolding step applied
-granted-by m t c {n} {p} e = go (decision m t c) refl e
+granted-by m t c {a = n} {p} e = go (decision m t c) refl e
   where
-    by : {x : Change} → Accepted m t c x → x .answer ≡ granted n p → (j : ℕ) × (k : ℕ) × (c ≡ request j k) × Granted m t j k n p
+    by : {x : Change} → Accepted m t c x → x .answer ≡ granted n p → (j : ℕ) × (k : ℕ) × (c ≡ request j k) × GrantedAs m t j k n p
     by (grants j k s q a b h d) e =
-        let node : s .node ≡ n = cc in
+        let name : applicationNode (mapOf t j) (s .node) ≡ n = cc in
         let page : pickPage (m .pageCounts) (t .ledger) j (s .node) ≡ p = cc in
-        (j, k, q, subst (λ (x : ℕ). Granted m t j k x p) node (subst (Granted m t j k (s .node)) page (serves m t j k a b h)))
+        (j, k, q, record { node = s .node; named = name; grant = subst (Granted m t j k (s .node)) page (serves m t j k a b h) })
     by (frees j q a b d) e = absurd (let z : _≡_ {A = ℕ} 0 1 = cc in omega arith)
     by (freesAll a d) e = absurd (let z : _≡_ {A = ℕ} 0 1 = cc in omega arith)
     by (stores j r d) e = absurd (let z : _≡_ {A = ℕ} 0 1 = cc in omega arith)
+    by (maps j r d) e = absurd (let z : _≡_ {A = ℕ} 0 1 = cc in omega arith)
 
     go : (d : Decision Change) → decision m t c ≡ d → applied t d .answer ≡ granted n p
-        → (j : ℕ) × (k : ℕ) × (c ≡ request j k) × Granted m t j k n p
+        → (j : ℕ) × (k : ℕ) × (c ≡ request j k) × GrantedAs m t j k n p
     go (refuse r) f e = absurd (let z : _≡_ {A = ℕ} 0 1 = cc in omega arith)
     go (accept x) f e = by (accepted-is m t c f) e
 
 -- a request is granted only so
-pub granted-is : (m : Machine) (t : Tables) (j k : ℕ) {n p : ℕ} → step m t (request j k) .answer ≡ granted n p → Granted m t j k n p
-granted-is m t j k {n} {p} e =
+pub granted-is : (m : Machine) (t : Tables) (j k : ℕ) {a p : ℕ} → step m t (request j k) .answer ≡ granted a p → GrantedAs m t j k a p
+granted-is m t j k {a} {p} e =
     let g = granted-by m t (request j k) e in
     let sameJob : g .0 ≡ j = cc in
     let sameCpu : g .1 ≡ k = cc in
-    subst (λ (x : ℕ). Granted m t x k n p) sameJob (subst (λ (x : ℕ). Granted m t (g .0) x n p) sameCpu (g .3))
+    subst (λ (x : ℕ). GrantedAs m t x k a p) sameJob (subst (λ (x : ℕ). GrantedAs m t (g .0) x a p) sameCpu (g .3))
 
 -- the page of a grant was free
 pub granted-was-free : {m : Machine} {t : Tables} {j k n p : ℕ} → Granted m t j k n p → getD (t .ledger) p 1 ≡ 0
@@ -331,12 +396,12 @@ earlier-counted-0 {t = t} g {s} h = let l = ltb-false 0 (getD (t .free) (s .node
 
 -- ---- release
 
--- "10 page number out of range, or not held by this job": what a release of page q of node n says
+-- "10 page number out of range, or not held by this job": what a release of page q, answered with node n, says
 pub record Released (m : Machine) (t : Tables) (j p n q : ℕ) : Type 0 where
   pub asked : p ≡ q
   pub inRange : q < sum (m .pageCounts)
   pub held : getD (t .ledger) q 0 ≡ j + 1
-  pub nodeIs : nodeOfPage (m .pageCounts) q ≡ n
+  pub named : applicationNode (mapOf t j) (nodeOfPage (m .pageCounts) q) ≡ n
 
 -- a page that a job holds may be released
 pub held-page : (counts ledger : List ℕ) (j p : ℕ) → holds counts ledger j p ≡ true → (p < sum counts) × (getD ledger p 0 ≡ j + 1)
@@ -356,10 +421,11 @@ released-by m t c {n} {q} e = go (decision m t c) refl e
     by (freesAll a d) e = absurd (let z : _≡_ {A = ℕ} 0 1 = cc in omega arith)
     by (frees j p a b d) e =
         let page : p ≡ q = cc in
-        let node : nodeOfPage (m .pageCounts) p ≡ n = cc in
+        let node : applicationNode (mapOf t j) (nodeOfPage (m .pageCounts) p) ≡ n = cc in
         let h = held-page (m .pageCounts) (t .ledger) j p (b .held) in
-        (j, p, a, record { asked = page; inRange = rw (sym page) (h .0); held = rw (sym page) (h .1); nodeIs = rw (sym page) node })
+        (j, p, a, record { asked = page; inRange = rw (sym page) (h .0); held = rw (sym page) (h .1); named = rw (sym page) node })
     by (stores j r d) e = absurd (let z : _≡_ {A = ℕ} 0 1 = cc in omega arith)
+    by (maps j r d) e = absurd (let z : _≡_ {A = ℕ} 0 1 = cc in omega arith)
 
     go : (d : Decision Change) → decision m t c ≡ d → applied t d .answer ≡ released n q
         → (j : ℕ) × (p : ℕ) × (c ≡ release j p) × Released m t j p n q
@@ -374,10 +440,11 @@ released-is m t j p {n} {q} e =
     let samePage : g .1 ≡ p = cc in
     subst (λ (x : ℕ). Released m t x p n q) sameJob (subst (λ (x : ℕ). Released m t (g .0) x n q) samePage (g .3))
 
--- M-100: "a release that would take a count above the node's pages": one that passes 1, 2 and 10 and finds that
+-- M-100: "a release that would take a count above the node's pages": one that passes 1, 2, 15 and 10 and finds that
 pub record MeetsFullCount (counts : List ℕ) (t : Tables) (j p : ℕ) : Type 0 where
   pub tablesOk : releaseTablesOk counts t ≡ true
   pub job : isJob (t .records) j ≡ true
+  pub mapped : isMapped (length counts) t j ≡ true
   pub held : holds counts (t .ledger) j p ≡ true
   pub above : getD counts (nodeOfPage counts p) 0 < getD (t .free) (nodeOfPage counts p) 0 + 1
 
@@ -396,12 +463,13 @@ release-14 m t j p = (λ e. there (releaseDecision (m .pageCounts) t j p) refl e
         let same : q ≡ 14 = cc in
         let a = passed-to (releaseTablesOk (m .pageCounts) t) 1 _ f (λ y. omega arith) in
         let b = passed-to (isJob (t .records) j) 2 _ (a .1) (λ y. omega arith) in
-        let c = passed-to (holds (m .pageCounts) (t .ledger) j p) 10 _ (b .1) (λ y. omega arith) in
-        let d = last _ _ (c .1 ∙ ap refuse same) in
-        record { tablesOk = a .0; job = b .0; held = c .0; above = leb-false _ _ d }
+        let c = passed-to (isMapped (nodeCount m) t j) 15 _ (b .1) (λ y. omega arith) in
+        let d = passed-to (holds (m .pageCounts) (t .ledger) j p) 10 _ (c .1) (λ y. omega arith) in
+        let h = last _ _ (d .1 ∙ ap refuse same) in
+        record { tablesOk = a .0; job = b .0; mapped = c .0; held = d .0; above = leb-false _ _ h }
 
     back : MeetsFullCount (m .pageCounts) t j p → step m t (release j p) .answer ≡ refused 14
-    back h = rw (h .tablesOk, h .job, h .held, lt-leb _ _ (h .above))
+    back h = rw (h .tablesOk, h .job, h .mapped, h .held, lt-leb _ _ (h .above))
 
 -- M-100: the fresh table "can be refused only 1", exactly when what it is lent is not in order
 pub fresh-refused : (m : Machine) (t : Tables) (r : ℕ) → (step m t freshTable .answer ≡ refused r)
@@ -449,6 +517,7 @@ writes-at-pages m t c = go (decision m t c) refl
         let h = held-page (m .pageCounts) (t .ledger) j p (b .held) in
         rw d (record { ofMachine = h .0; inTable = in-table (t .ledger) p 0 (j + 1) (h .1) (λ z. omega arith) }, tt)
     by (stores j r d) = rw d tt
+    by (maps j r d) = rw d tt
 
     go : (d : Decision Change) → decision m t c ≡ d → Each (AtPage (m .pageCounts) (t .ledger)) (writesOf d)
     go (refuse r) f = tt

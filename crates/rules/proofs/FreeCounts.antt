@@ -9,14 +9,14 @@ use native.Mathlib.Decide.{ℕ-discrete, decLe}
 use native.Mathlib.Omega.{arith}
 use borrow.Author.Tests.{eq-eqb, ne-eqb, lt-ltb}
 use lib.Dec.{ltb, eqb}
-use lib.ListN.{length, getD, drop, set, replicate, length-set}
+use lib.ListN.{length, getD, drop, set, replicate, length-set, length-map}
 use lib.Seq.{getD-set-same, getD-set-other, ext-getD}
 use Rattle.rules.specs.Basics.{keep, first, isNil, count, from, sum}
 use Rattle.rules.specs.Machine.{firstPage, pagesOf}
 use Rattle.rules.specs.SearchOrder.{Try, freePages, hasRoom, counted, chosen}
 use Rattle.rules.specs.Calls.{write, afterWrites}
 use Rattle.rules.specs.FreeCounts.{freeCounts, firstWithRoom}
-use Rattle.rules.proofs.Lists.{keep-same}
+use Rattle.rules.proofs.Lists.{keep-same, length-from}
 use Rattle.rules.proofs.Admission.{isFree}
 use Rattle.rules.proofs.Pages.{PageOf, page-lt, page-node, page-node-lt}
 
@@ -36,12 +36,6 @@ entry-past f a zero i h = refl
 entry-past f a (suc k) zero h = absurd (omega arith)
 entry-past f a (suc k) (suc i) h = entry-past f (suc a) k i (omega arith)
 
--- it has k entries
-length-from : (f : ℕ → ℕ) (a k : ℕ) → length (map f (from a k)) ≡ k
-unfolding from
-length-from f a zero = refl
-length-from f a (suc k) = ap suc (length-from f (suc a) k)
-
 past-end : (xs : List ℕ) (i : ℕ) → length xs ≤ i → getD xs i 0 ≡ 0
 past-end [] i h = refl
 past-end (x ∷ xs) zero h = absurd (omega arith)
@@ -56,7 +50,7 @@ freeCount counts ledger n = length (freePages counts ledger n)
 -- there is a count for each node
 pub free-counts-length : (counts ledger : List ℕ) → length (freeCounts counts ledger) ≡ length counts
 unfolding freeCounts
-free-counts-length counts ledger = length-from (freeCount counts ledger) 0 (length counts)
+free-counts-length counts ledger = length-map (from 0 (length counts)) (freeCount counts ledger) ∙ length-from 0 (length counts)
 
 -- the count of each node is the number of its free pages; a node that the machine has not has none
 pub count-is : (counts ledger : List ℕ) (n : ℕ) → getD (freeCounts counts ledger) n 0 ≡ freeCount counts ledger n

@@ -1,24 +1,39 @@
 -- Refusal 1: tables that are in order for a request are so for every call, and stay so.
 -- Assumes nothing.
-use Prim.Native.Nat.{ℕ, _≤_}
-use mathlib.Core.Path.{_≡_, refl}
+use Prim.Native.Nat.{ℕ, _+_, _*_, _≤_}
+use mathlib.Core.Path.{_≡_, refl, _∙_}
 use mathlib.Core.Bool.{Bool, true, false, _&&_, false≢true}
 use mathlib.Core.List.{List}
+use native.Mathlib.Omega.{arith}
+use lib.Dec.{ltb}
 use lib.ListN.{length}
-use borrow.Author.Tests.{eqb-true, leb-true}
+use borrow.Author.Tests.{eqb-true, leb-true, ltb-true}
 use Rattle.rules.specs.Basics.{sum}
 use Rattle.rules.specs.Machine.{Machine, nodeCount, nodesOk, pagesOk, cpusOk, distancesOk, pageTableOk, machineOk}
-use Rattle.rules.specs.Masks.{mostNodes}
-use Rattle.rules.specs.Records.{jobTableOk}
-use Rattle.rules.specs.Calls.{Tables, freeOk, requestTablesOk, freshTablesOk, releaseTablesOk, recordTablesOk}
-use Rattle.rules.proofs.Lists.{both-true}
+use Rattle.rules.specs.Records.{jobCount, jobTableOk}
+use Rattle.rules.specs.Maps.{mapSize, mapTableOk}
+use Rattle.rules.specs.Calls.{Tables, freeOk, jobsOk, requestTablesOk, freshTablesOk, releaseTablesOk, recordTablesOk, mappedTablesOk}
+use Rattle.rules.proofs.Lists.{both-true, both-hold}
 use Rattle.rules.proofs.Machine.{CountsInOrder, counts-in-order}
 
--- test 1 looks at the lengths of the tables that the calls keep up only
-pub same-lengths-ok : (m : Machine) (t u : Tables) → length (u .ledger) ≡ length (t .ledger) → length (u .records) ≡ length (t .records)
-    → length (u .free) ≡ length (t .free) → requestTablesOk m t ≡ true → requestTablesOk m u ≡ true
-unfolding requestTablesOk
-same-lengths-ok m t u e f g h = rw (e, f, g) h
+-- Two tables are as long, each of those that the calls keep up.
+pub record SameLengths (t u : Tables) : Type 0 where
+  pub ledger : length (u .ledger) ≡ length (t .ledger)
+  pub records : length (u .records) ≡ length (t .records)
+  pub free : length (u .free) ≡ length (t .free)
+  pub maps : length (u .maps) ≡ length (t .maps)
+
+pub same-lengths : {t : Tables} → SameLengths t t
+same-lengths = record { ledger = refl; records = refl; free = refl; maps = refl }
+
+pub lengths-then : {t u v : Tables} → SameLengths t u → SameLengths u v → SameLengths t v
+lengths-then a b =
+    record { ledger = b .ledger ∙ a .ledger; records = b .records ∙ a .records; free = b .free ∙ a .free; maps = b .maps ∙ a .maps }
+
+-- test 1 looks at these lengths only
+pub same-lengths-ok : (m : Machine) (t u : Tables) → SameLengths t u → requestTablesOk m t ≡ true → requestTablesOk m u ≡ true
+unfolding requestTablesOk jobsOk
+same-lengths-ok m t u e h = rw (e .ledger, e .records, e .free, e .maps) h
 
 release-tests : (nodes pages cpus distances bytes words free : Bool) → (nodes && pages && cpus && distances && bytes && words && free) ≡ true
     → (nodes && pages && bytes && free && words) ≡ true
@@ -43,19 +58,44 @@ pub release-ok : (m : Machine) (t : Tables) → requestTablesOk m t ≡ true →
 unfolding requestTablesOk releaseTablesOk freshTablesOk machineOk
 release-ok m t h =
     release-tests (nodesOk (nodeCount m)) (pagesOk (m .pageCounts)) (cpusOk (nodeCount m) (m .cpuNodes)) (distancesOk (nodeCount m) (m .distances))
-    (pageTableOk (m .pageCounts) (length (t .ledger))) (jobTableOk (length (t .records))) (freeOk (nodeCount m) (length (t .free))) h
+    (pageTableOk (m .pageCounts) (length (t .ledger))) (jobsOk (length (t .records)) (length (t .maps))) (freeOk (nodeCount m) (length (t .free))) h
 
 -- those for a release are so for a fresh table
 pub fresh-ok : (counts : List ℕ) (t : Tables) → releaseTablesOk counts t ≡ true → freshTablesOk counts (length (t .ledger)) (length (t .free)) ≡ true
 unfolding releaseTablesOk
-fresh-ok counts t h = both-true {a = freshTablesOk counts (length (t .ledger)) (length (t .free))} {b = jobTableOk (length (t .records))} h .0
+fresh-ok counts t h = both-true {a = freshTablesOk counts (length (t .ledger)) (length (t .free))} {b = jobsOk (length (t .records)) (length (t .maps))} h .0
 
--- and those for a request for install, rebind and clear
-pub record-ok : (m : Machine) (t : Tables) → requestTablesOk m t ≡ true → recordTablesOk (nodeCount m) (length (t .records)) ≡ true
-unfolding releaseTablesOk freshTablesOk recordTablesOk
-record-ok m t h =
+-- those for a request for a call that is lent N, the job table and the maps
+pub mapped-ok : (m : Machine) (t : Tables) → requestTablesOk m t ≡ true → mappedTablesOk (nodeCount m) (length (t .records)) (length (t .maps)) ≡ true
+unfolding releaseTablesOk freshTablesOk mappedTablesOk
+mapped-ok m t h =
     record-tests (nodesOk (nodeCount m)) (pagesOk (m .pageCounts)) (pageTableOk (m .pageCounts) (length (t .ledger))) (freeOk (nodeCount m) (length (t .free)))
-    (jobTableOk (length (t .records))) (release-ok m t h)
+    (jobsOk (length (t .records)) (length (t .maps))) (release-ok m t h)
+
+-- job table and maps are in order, where the tables of a release are
+pub jobs-ok : (counts : List ℕ) (t : Tables) → releaseTablesOk counts t ≡ true → jobsOk (length (t .records)) (length (t .maps)) ≡ true
+unfolding releaseTablesOk
+jobs-ok counts t h = both-true {a = freshTablesOk counts (length (t .ledger)) (length (t .free))} h .1
+
+-- and those for such a call for rebind and clear
+pub record-ok : (n words bytes : ℕ) → mappedTablesOk n words bytes ≡ true → recordTablesOk n words ≡ true
+unfolding mappedTablesOk recordTablesOk jobsOk
+record-ok n words bytes h =
+    let a = both-true {a = nodesOk n} {b = jobsOk words bytes} h in
+    both-hold (a .0) (both-true {a = jobTableOk words} (a .1) .0)
+
+-- there are 64 bytes for each job
+pub job-map : (words bytes j : ℕ) → jobsOk words bytes ≡ true → ltb j (jobCount words) ≡ true → mapSize * j + mapSize ≤ bytes
+unfolding jobsOk mapTableOk
+job-map words bytes j ok job =
+    let e = eqb-true bytes (mapSize * jobCount words) (both-true {a = jobTableOk words} ok .1) in
+    let l = ltb-true j (jobCount words) job in
+    omega arith
+
+-- and so for each job of such a call
+pub mapped-map : (n words bytes j : ℕ) → mappedTablesOk n words bytes ≡ true → ltb j (jobCount words) ≡ true → mapSize * j + mapSize ≤ bytes
+unfolding mappedTablesOk
+mapped-map n words bytes j ok job = job-map words bytes j (both-true {a = nodesOk n} {b = jobsOk words bytes} ok .1) job
 
 -- What a fresh table may count on, and so a release and a request: page counts in order, a page table that has the pages, a count for each node.
 pub record PagesInOrder (counts : List ℕ) (bytes entries : ℕ) : Type 0 where

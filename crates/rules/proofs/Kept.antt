@@ -4,7 +4,7 @@ use Prim.Native.Nat.{ℕ, _^_, _≤_, _<_}
 use mathlib.Core.Path.{_≡_, refl, sym, ap, _∙_}
 use mathlib.Core.Logic.{⊎-elim}
 use mathlib.Core.Bool.{Bool, true, false, _&&_, cond}
-use mathlib.Core.List.{List, [], _∷_, List·Memᴰ·head, List·Memᴰ·tail, List·Memᴰ·not-nil, List·Memᴰ·cases-cons}
+use mathlib.Core.List.{List, [], _∷_, List·Memᴰ·not-nil, List·Memᴰ·cases-cons}
 use mathlib.Core.Option.{Option, none, some}
 use native.Mathlib.Nat.{lt-of-le-of-lt}
 use native.Mathlib.Decide.{ℕ-discrete}
@@ -20,17 +20,18 @@ use Rattle.rules.specs.Records.{aList, unknown, aPlace}
 use Rattle.rules.specs.Records.{Flag, plain, static, relative, unknownFlag, carries, modeOf, flagOf, Policy, Turn, lastIs, Record, jobCount}
 use Rattle.rules.specs.Records.{jobTableOk, placesOf, recordAt, putRecord, unusedZero, cursorLimit, noMasks, effectiveFits, masksFit, dataFits}
 use Rattle.rules.specs.Records.{modeKnown, flagKnown, wellFormed, installed, rebound, withTurn}
+use Rattle.rules.specs.Maps.{mapBytes, turned, withinMap}
 use Rattle.rules.specs.SearchOrder.{near, Try, try, Plan, nearest, placed, tried, nodeAt, ringTries, target, interleaved, planIn, modeInForce}
 use Rattle.rules.specs.SearchOrder.{ringPlaces, plan, order, counted, chosen}
 use Rattle.rules.specs.Decisions.{Decision, refuse, accept}
-use Rattle.rules.specs.Calls.{Tables, Change, Store, afterStores, applied, requestTablesOk, recordTablesOk, flagFits, policyKnown}
-use Rattle.rules.specs.Calls.{limitOf, orderOf}
-use Rattle.rules.specs.Book.{Call, request, release, install, rebind, clear, freshTable, decision, step, final}
+use Rattle.rules.specs.Calls.{Tables, Change, Store, afterStores, applied, jobsOk, requestTablesOk, recordTablesOk, mappedTablesOk, flagFits, policyKnown}
+use Rattle.rules.specs.Calls.{mapOf, isMapped, policyFits, installFits, limitOf, orderOf}
+use Rattle.rules.specs.Book.{Call, request, release, install, rebind, clear, freshTable, keepNodes, setMap, decision, step, final}
 use Rattle.rules.proofs.Admission.{Passes, accepted}
-use Rattle.rules.proofs.Bytes.{AreBytes}
-use Rattle.rules.proofs.Calls.{InstallPasses, RebindPasses, installs, rebinds, clears, releases, freshens}
+use Rattle.rules.proofs.Calls.{InstallPasses, RebindPasses, installs, rebinds, clears, keepings, setMaps, releases, freshens}
 use Rattle.rules.proofs.InOrder.{release-ok, fresh-ok, pages-in-order}
-use Rattle.rules.proofs.Lists.{_∈_, both-true, both-hold, keep-member, first-keep, first-member, map-member, around-below}
+use Rattle.rules.proofs.Maps.{turned-known, turned-bytes, map-nodes}
+use Rattle.rules.proofs.Lists.{_∈_, both-true, both-hold, between-true, keep-member, first-keep, first-member, map-member, around-below}
 use Rattle.rules.proofs.Masks.{within-bits, below-width}
 use Rattle.rules.proofs.Records.{Storable, record-storable, fresh-storable, installed-storable, rebound-storable, turn-storable, record-same}
 use Rattle.rules.proofs.Records.{record-other, length-put}
@@ -139,13 +140,18 @@ unfolding nodesOk
 nodes-few n e = leb-true n mostNodes (both-true {a = leb 1 n} {b = leb n mostNodes} e .1)
 
 -- tables in order at a request have at most 64 nodes
-pub request-nodes : (m : Machine) (t : Tables) → requestTablesOk m t ≡ true → nodeCount m ≤ mostNodes
+request-nodes : (m : Machine) (t : Tables) → requestTablesOk m t ≡ true → nodeCount m ≤ mostNodes
 request-nodes m t e = pages-in-order (m .pageCounts) _ _ (fresh-ok (m .pageCounts) t (release-ok m t e)) .counts-ok .nodesMost
 
 -- N in order is at most 64
-pub record-nodes : (n words : ℕ) → recordTablesOk n words ≡ true → n ≤ mostNodes
+record-nodes : (n words : ℕ) → recordTablesOk n words ≡ true → n ≤ mostNodes
 unfolding recordTablesOk
 record-nodes n words e = nodes-few n (both-true {a = nodesOk n} {b = jobTableOk words} e .0)
+
+-- and at least 1, also where the maps are lent
+pub mapped-nodes : (n words bytes : ℕ) → mappedTablesOk n words bytes ≡ true → (1 ≤ n) × (n ≤ mostNodes)
+unfolding mappedTablesOk nodesOk
+mapped-nodes n words bytes ok = between-true 1 mostNodes n (both-true {a = nodesOk n} {b = jobsOk words bytes} ok .0)
 
 -- ---- what each call stores
 
@@ -177,28 +183,30 @@ request-good m t j k s p e =
       is-formed = turn-formed n r (s .turn) h (fits .0) (fits .1);
     }
 
--- the places of a call are bytes
-abbrev pub BytePlaces : Call → Type 0
-BytePlaces (request j k) = Unit {0}
-BytePlaces (release j p) = Unit {0}
-BytePlaces (install j p) = AreBytes (p .places)
-BytePlaces (rebind j allowed) = Unit {0}
-BytePlaces (clear j) = Unit {0}
-BytePlaces freshTable = Unit {0}
+-- an accepted install names entries of the map, and what they name fits
+pub install-fits : (n : ℕ) (t : Tables) (j : ℕ) (p : Policy) → InstallPasses n t j p → let q = turned (mapOf t j) p in
+    (withinMap (mapOf t j) p ≡ true) × (policyFits (carries (modeOf (q .mode))) n (recordAt (t .records) j .allowed) q ≡ true)
+unfolding installFits turned
+install-fits n t j p h = both-true {a = withinMap (mapOf t j) p} (h .fits)
 
-install-good : (n : ℕ) (records : List ℕ) (j : ℕ) (p : Policy) → AreBytes (p .places) → InstallPasses n records j p
-    → Good n records (storeAs j (installed (recordAt records j) p))
-unfolding policyKnown
-install-good n records j p bytes h =
-    let r = recordAt records j in
-    let k = both-true {a = modeKnown (modeOf (p .mode)) && flagKnown (flagOf (p .flag))} {b = flagFits (carries (modeOf (p .mode))) p} (h .known) in
-    let mf = both-true {a = modeKnown (modeOf (p .mode))} {b = flagKnown (flagOf (p .flag))} (k .0) in
-    let few = few-places (carries (modeOf (p .mode))) n (r .allowed) p (h .fits) in
+install-good : (n : ℕ) (t : Tables) (j : ℕ) (p : Policy) → InstallPasses n t j p
+    → Good n (t .records) (storeAs j (installed (recordAt (t .records) j) (turned (mapOf t j) p)))
+unfolding policyKnown isMapped mapOf
+install-good n t j p h =
+    let r = recordAt (t .records) j in
+    let nodes = mapOf t j in
+    let q = turned nodes p in
+    let fits = install-fits n t j p h in
+    let known : policyKnown q ≡ true = turned-known nodes p (fits .0) ∙ h .known in
+    let k = both-true {a = modeKnown (modeOf (q .mode)) && flagKnown (flagOf (q .flag))} {b = flagFits (carries (modeOf (q .mode))) q} known in
+    let mf = both-true {a = modeKnown (modeOf (q .mode))} {b = flagKnown (flagOf (q .flag))} (k .0) in
+    let few = few-places (carries (modeOf (q .mode))) n (r .allowed) q (fits .1) in
+    let nodesOk = mapped-nodes n (length (t .records)) (length (t .maps)) (h .tablesOk) .1 in
+    let bytes = turned-bytes nodes p (fits .0) n nodesOk (map-nodes n (mapBytes (t .maps) j) (h .mapped) .known) in
     record {
-      there = ltb-true j (jobCount (length records)) (h .job);
-      storable = installed-storable r p (omega (arith, mode-small (p .mode) (mf .0))) (omega (arith, flag-small (p .flag) (mf .1))) (omega arith) bytes;
-      is-formed = installed-formed n r p (record-nodes n (length records) (h .tablesOk)) (formed n r (h .formed)) (some-pos (r .allowed) (h .allowed))
-          (h .known) (h .fits);
+      there = ltb-true j (jobCount (length (t .records))) (h .job);
+      storable = installed-storable r q (omega (arith, mode-small (q .mode) (mf .0))) (omega (arith, flag-small (q .flag) (mf .1))) (omega arith) bytes;
+      is-formed = installed-formed n r q nodesOk (formed n r (h .formed)) (some-pos (r .allowed) (h .allowed)) known (fits .1);
     }
 
 rebind-good : (n : ℕ) (records : List ℕ) (j new : ℕ) → RebindPasses n records j new → Good n records (storeAs j (rebound (recordAt records j) new))
@@ -212,23 +220,25 @@ rebind-good n records j new h =
     }
 
 -- whatever an accepted call stores is good
-stores-good : (m : Machine) (t : Tables) (c : Call) → BytePlaces c → {x : Change} → decision m t c ≡ accept x
+stores-good : (m : Machine) (t : Tables) (c : Call) {x : Change} → decision m t c ≡ accept x
     → Each (Good (nodeCount m) (t .records)) (x .stores)
 unfolding decision Each
-stores-good m t (request j k) b e =
+stores-good m t (request j k) e =
     let a = accepted m t j k e in
     rw (a .4) (request-good m t j k (a .1) (a .0) (a .2), tt)
-stores-good m t (release j p) b e = rw (releases (m .pageCounts) t j p e .1) tt
-stores-good m t (install j p) b e =
-    let a = installs (nodeCount m) (t .records) j p e in
-    rw (a .1) (install-good (nodeCount m) (t .records) j p b (a .0), tt)
-stores-good m t (rebind j allowed) b e =
+stores-good m t (release j p) e = rw (releases (m .pageCounts) t j p e .1) tt
+stores-good m t (install j p) e =
+    let a = installs (nodeCount m) t j p e in
+    rw (a .1) (install-good (nodeCount m) t j p (a .0), tt)
+stores-good m t (rebind j allowed) e =
     let a = rebinds (nodeCount m) (t .records) j allowed e in
     rw (a .1) (rebind-good (nodeCount m) (t .records) j allowed (a .0), tt)
-stores-good m t (clear j) b e =
+stores-good m t (clear j) e =
     let a = clears (nodeCount m) (t .records) j e in
     rw (a .1) (record { there = ltb-true j (jobCount (length (t .records))) (a .0); storable = fresh-storable; is-formed = fresh-formed (nodeCount m) }, tt)
-stores-good m t freshTable b e = rw (freshens (m .pageCounts) t e .1) tt
+stores-good m t freshTable e = rw (freshens (m .pageCounts) t e .1) tt
+stores-good m t (keepNodes j kept) e = rw (keepings (nodeCount m) t j kept e .1) tt
+stores-good m t (setMap j nodes) e = rw (setMaps (nodeCount m) t j nodes e .1) tt
 
 -- ---- every call
 
@@ -263,19 +273,18 @@ all-put-kept n records (s ∷ ss) i g h =
     all-put-kept n (putRecord records (s .job) (s .stored)) ss i (good-after n records s ss (g .1)) (put-kept n records s i (g .0) h)
 
 -- every call leaves a well-formed record well formed
-pub kept : (m : Machine) (t : Tables) (c : Call) (i : ℕ) → BytePlaces c
+pub kept : (m : Machine) (t : Tables) (c : Call) (i : ℕ)
     → wellFormed (nodeCount m) (recordAt (t .records) i) ≡ true → wellFormed (nodeCount m) (recordAt (step m t c .tables .records) i) ≡ true
 unfolding step applied
-kept m t c i b h = go (decision m t c) refl
+kept m t c i h = go (decision m t c) refl
   where
     go : (d : Decision Change) → decision m t c ≡ d → wellFormed (nodeCount m) (recordAt (applied t d .tables .records) i) ≡ true
     go (refuse r) e = h
-    go (accept x) e = all-put-kept (nodeCount m) (t .records) (x .stores) i (stores-good m t c b e) h
+    go (accept x) e = all-put-kept (nodeCount m) (t .records) (x .stores) i (stores-good m t c e) h
 
 -- every list of calls does
-pub all-kept : (m : Machine) (t : Tables) (cs : List Call) (i : ℕ) → ((c : Call) → c ∈ cs → BytePlaces c)
+pub all-kept : (m : Machine) (t : Tables) (cs : List Call) (i : ℕ)
     → wellFormed (nodeCount m) (recordAt (t .records) i) ≡ true → wellFormed (nodeCount m) (recordAt (final m t cs .records) i) ≡ true
 unfolding final
-all-kept m t [] i b h = h
-all-kept m t (c ∷ cs) i b h =
-    all-kept m (step m t c .tables) cs i (λ x q. b x (List·Memᴰ·tail q)) (kept m t c i (b c (List·Memᴰ·head refl)) h)
+all-kept m t [] i h = h
+all-kept m t (c ∷ cs) i h = all-kept m (step m t c .tables) cs i (kept m t c i h)

@@ -2,11 +2,13 @@ pub mod Decisions
 pub mod Admission
 pub mod AllRight
 pub mod Lists
+pub mod Filled
 pub mod Sorted
 pub mod Masks
 pub mod Turns
 pub mod Bytes
 pub mod Records
+pub mod Maps
 pub mod WellFormed
 pub mod Target
 pub mod Kept
@@ -18,3 +20,5 @@ pub mod Calls
 pub mod Book
 pub mod FreeCounts
 pub mod AsBefore
+pub mod Mapped
+pub mod Unmapped

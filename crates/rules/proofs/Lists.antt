@@ -298,6 +298,19 @@ module _ {A B : Type 0} where
   pub map-member : (f : A → B) (xs : List A) {y : B} → y ∈ map f xs → (x : A) × (x ∈ xs) × (y ≡ f x)
   map-member f xs h = let r = Memᴰ·of-map f xs h in (r .0, r .1, sym (r .2))
 
+-- there are k of a, a + 1, ..
+pub length-from : (a k : ℕ) → length (from a k) ≡ k
+unfolding from
+length-from a zero = refl
+length-from a (suc k) = ap suc (length-from (suc a) k)
+
+-- entry i of a, a + 1, ..
+pub entry-from : (a k i d : ℕ) → i < k → getD (from a k) i d ≡ a + i
+unfolding from
+entry-from a zero i d h = absurd (omega arith)
+entry-from a (suc k) zero d h = omega arith
+entry-from a (suc k) (suc i) d h = omega (arith, entry-from (suc a) k i d (omega arith))
+
 -- a number in from a k is from a on below a + k
 pub from-member : (a k : ℕ) {n : ℕ} → n ∈ from a k → (a ≤ n) × (n < a + k)
 unfolding from

@@ -79,9 +79,27 @@ same-nodes w a b ha hb f g = ext w a b ha hb (λ n l. bit-same a b n (f n l) (g 
 pub bit-and : (a b n : ℕ) → bit (bitAnd a b) n ≡ min (bit a n) (bit b n)
 bit-and a b n = omega (arith, and-shr a b n, and-step (a / 2 ^ n) (b / 2 ^ n))
 
+-- no node is in the empty mask and another
+pub zero-and : (b : ℕ) → bitAnd 0 b ≡ 0
+zero-and b = omega (arith, and-le-l 0 b)
+
+-- a node of `a & b` is one of each
+pub both-has : (a b k : ℕ) → has (bitAnd a b) k ≡ true → (has a k ≡ true) × (has b k ≡ true)
+both-has a b k e =
+    let one : bit (bitAnd a b) k ≡ 1 = eqb-true (bit (bitAnd a b) k) 1 e in
+    (eq-eqb (bit a k) 1 (omega (arith, bit-and a b k, one, bit-lt a k)), eq-eqb (bit b k) 1 (omega (arith, bit-and a b k, one, bit-lt b k)))
+
 -- a bit of `a | b` is in one of them
 pub bit-or : (a b n : ℕ) → bit (bitOr a b) n ≡ max (bit a n) (bit b n)
 bit-or a b n = omega (arith, or-shr a b n, or-step (a / 2 ^ n) (b / 2 ^ n))
+
+-- and so a node
+pub either-has : (a b n : ℕ) → has (bitOr a b) n ≡ (has a n || has b n)
+either-has a b n = go (bit-cases a n) (bit-cases b n)
+  where
+    go : (bit a n ≡ 0) ⊎ (bit a n ≡ 1) → (bit b n ≡ 0) ⊎ (bit b n ≡ 1) → has (bitOr a b) n ≡ (has a n || has b n)
+    go (inr p) q = let e : bit (bitOr a b) n ≡ 1 = omega (arith, bit-or a b n, bit-lt b n) in rw (e, p) refl
+    go (inl p) q = let e : bit (bitOr a b) n ≡ bit b n = omega (arith, bit-or a b n) in rw (e, p) refl
 
 -- `m & (1 << n)` is bit n, in its place
 pub and-one : (m n : ℕ) → bitAnd m (2 ^ n) ≡ bit m n * 2 ^ n
@@ -268,6 +286,25 @@ has-insert-other m n k d =
 -- a node below w leaves a mask of w bits
 pub insert-lt : (w m n : ℕ) → m < 2 ^ w → n < w → insert m n < 2 ^ w
 insert-lt w m n h l = subst (λ (x : ℕ). x < 2 ^ w) (or-one m n) (or-lt w m (2 ^ n) h (pow-lt l))
+
+-- up to that node it has the ranks that it had
+rank-insert : (w m n : ℕ) → w ≤ n → rank (insert m n) w ≡ rank m w
+unfolding rank
+rank-insert zero m n h = refl
+rank-insert (suc w) m n h = omega (arith, rank-insert w m n (omega arith), bit-insert m n w, bit-other n w (λ e. omega arith))
+
+-- and it has one node more, if it had that one not
+pub size-insert : (w m n : ℕ) → n < w → rank (insert m n) w ≡ rank m w + (1 - bit m n)
+unfolding rank
+size-insert zero m n h = absurd (omega arith)
+size-insert (suc w) m n h = go (ℕ-discrete n w) (size-insert w m n)
+  where
+    go : Dec (n ≡ w) → (n < w → rank (insert m n) w ≡ rank m w + (1 - bit m n)) → rank (insert m n) w + bit (insert m n) w ≡ rank m w + bit m w + (1 - bit m n)
+    go (yes e) ih =
+        let same : bit m w ≡ bit m n = ap (bit m) (sym e) in
+        let one : bit (2 ^ n) w ≡ 1 = ap (bit (2 ^ n)) (sym e) ∙ bit-one n in
+        omega (arith, rank-insert w m n (omega arith), bit-insert m n w, bit-lt m n)
+    go (no d) ih = omega (arith, ih (omega arith), bit-insert m n w, bit-other n w d)
 
 -- ---- the nodes f b, for b in u
 

@@ -215,7 +215,7 @@ record-same t j r h s =
     ∙ decode-encode r s
 
 -- a run of stores leaves the words before it and after it
-sets-other : (l : List ℕ) (i : ℕ) (vs : List ℕ) (k : ℕ) → (k < i) ⊎ (i + length vs ≤ k) → getD (sets l i vs) k 0 ≡ getD l k 0
+pub sets-other : (l : List ℕ) (i : ℕ) (vs : List ℕ) (k : ℕ) → (k < i) ⊎ (i + length vs ≤ k) → getD (sets l i vs) k 0 ≡ getD l k 0
 sets-other l i [] k h = refl
 sets-other l i (v ∷ vs) k (inl h) =
     sets-other (set l i v) (suc i) vs k (inl (omega arith)) ∙ getD-set-other l i k v 0 (λ e. omega arith)

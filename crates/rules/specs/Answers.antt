@@ -4,7 +4,7 @@ use mathlib.Core.List.{List, [], _∷_}
 use Rattle.rules.specs.declared.Refusal.{Refusal}
 use Rattle.rules.specs.declared.Refusal.the-variants.{BadTables, NoSuchJob, NoSuchCpu, MalformedRecord, UnknownPolicy, DoesNotFit}
 use Rattle.rules.specs.declared.Refusal.the-variants.{NothingAllowed, NoRoom, NothingEffective, NotHeld, OutputTooShort, BadText}
-use Rattle.rules.specs.declared.Refusal.the-variants.{DamagedJournal, WrongCount}
+use Rattle.rules.specs.declared.Refusal.the-variants.{DamagedJournal, WrongCount, BadMap}
 use Rattle.rules.specs.declared.Answer.{Answer}
 use Rattle.rules.specs.declared.Answer.the-variants.{Granted, Released, Done, Refused}
 use Rattle.rules.specs.declared.Decision.{Decision}
@@ -34,6 +34,7 @@ numberOf OutputTooShort = 11
 numberOf BadText = 12
 numberOf DamagedJournal = 13
 numberOf WrongCount = 14
+numberOf BadMap = 15
 
 -- "Where an answer is an enum, a definition gives this paper's number and values for each case of the enum"
 abbrev pub answerOf : Answer → LawAnswer

@@ -5,10 +5,10 @@ use Rattle.rules.specs.Machine.{Machine, nodeCount}
 use Rattle.rules.specs.Records.{Policy}
 use Rattle.rules.specs.Decisions.{Decision}
 use Rattle.rules.specs.Calls.{Answer, Tables, Change, Outcome, applied, requestDecision, releaseDecision}
-use Rattle.rules.specs.Calls.{freshDecision, installDecision, rebindDecision, clearDecision}
+use Rattle.rules.specs.Calls.{freshDecision, installDecision, rebindDecision, clearDecision, keepDecision, setMapDecision}
 
 -- "The calls are request, release, install, rebind and clear; a later call that changes pages, records or limits joins them": M-100's fresh
--- table
+-- table, and M-103's tenant's and administrator's calls
 pub data Call : Type 0 where
   request : (job cpu : ℕ) → Call
   release : (job page : ℕ) → Call
@@ -16,15 +16,19 @@ pub data Call : Type 0 where
   rebind : (job allowed : ℕ) → Call
   clear : (job : ℕ) → Call
   freshTable : Call
+  keepNodes : (job : ℕ) (kept : List ℕ) → Call
+  setMap : (job : ℕ) (nodes : List ℕ) → Call
 
 -- "The book finds each answer or refusal by this document's rules, on its own ledger and records"
 unfoldable pub decision : Machine → Tables → Call → Decision Change
 decision m t (request j k) = requestDecision m t j k
 decision m t (release j p) = releaseDecision (m .pageCounts) t j p
-decision m t (install j p) = installDecision (nodeCount m) (t .records) j p
+decision m t (install j p) = installDecision (nodeCount m) t j p
 decision m t (rebind j allowed) = rebindDecision (nodeCount m) (t .records) j allowed
 decision m t (clear j) = clearDecision (nodeCount m) (t .records) j
 decision m t freshTable = freshDecision (m .pageCounts) t
+decision m t (keepNodes j kept) = keepDecision (nodeCount m) t j kept
+decision m t (setMap j nodes) = setMapDecision (nodeCount m) t j nodes
 
 -- one call: its answer, and the tables afterwards
 unfoldable pub step : Machine → Tables → Call → Outcome

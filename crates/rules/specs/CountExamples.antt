@@ -7,9 +7,10 @@ use Rattle.rules.specs.Basics.{openBasics, all, same}
 use Rattle.rules.specs.Machine.{openMachine}
 use Rattle.rules.specs.Masks.{openMasks}
 use Rattle.rules.specs.Records.{openRecords}
+use Rattle.rules.specs.Maps.{openMaps, identityMaps}
 use Rattle.rules.specs.SearchOrder.{openSearchOrder}
 use Rattle.rules.specs.Decisions.{openDecisions}
-use Rattle.rules.specs.Calls.{openCalls, Answer, released, done, refused, Tables, tablesOf}
+use Rattle.rules.specs.Calls.{openCalls, Answer, released, done, refused, tablesOf}
 use Rattle.rules.specs.Book.{openBook, Call, request, release, rebind, freshTable, answers, final}
 use Rattle.rules.specs.Examples.{machineA, page, sameAnswers}
 
@@ -33,7 +34,7 @@ ringJob = 0x30005 ∷ 0 ∷ 15 ∷ 0 ∷ 0x30100 ∷ 0 ∷ []
 
 abbrev pub right : Example → Bool
 right e =
-    let t = tablesOf (e .ledger) ringJob (e .free) in
+    let t = tablesOf (e .ledger) ringJob (e .free) (identityMaps 4 1) in
     sameAnswers (answers machineA t (e .calls)) (e .wanted)
     && same (final machineA t (e .calls) .ledger) (e .ledgerAfter)
     && same (final machineA t (e .calls) .free) (e .freeAfter)
@@ -67,5 +68,5 @@ table =
     ∷ []
 
 pub all-right : T (all right table)
-unfolding openBasics openMachine openMasks openRecords openSearchOrder openDecisions openCalls openBook
+unfolding openBasics openMachine openMasks openRecords openMaps openSearchOrder openDecisions openCalls openBook
 all-right = tt

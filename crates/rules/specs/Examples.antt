@@ -5,9 +5,10 @@ use mathlib.Core.List.{List, [], _∷_, _++_, map}
 use lib.ListN.{getD, replicate}
 use lib.Dec.{T, eqb}
 use Rattle.rules.specs.Basics.{openBasics, sum, all, any, from, same}
-use Rattle.rules.specs.Machine.{openMachine, Machine}
+use Rattle.rules.specs.Machine.{openMachine, Machine, nodeCount}
 use Rattle.rules.specs.Masks.{openMasks, mostNodes, maskOf}
 use Rattle.rules.specs.Records.{openRecords, wordsPerJob, recordAt, policy}
+use Rattle.rules.specs.Maps.{openMaps, identityMaps}
 use Rattle.rules.specs.SearchOrder.{openSearchOrder}
 use Rattle.rules.specs.Calls.{openCalls, Answer, granted, done, refused, Tables, tablesOf, orderOf, numbers}
 use Rattle.rules.specs.Book.{openBook, Call, request, install, rebind, answers, final}
@@ -28,9 +29,9 @@ machineA = record {
 abbrev pub tenNodes : Machine
 tenNodes = record { pageCounts = replicate 10 0; cpuNodes = []; distances = [] }
 
--- "all pages free", and so counted, and one fresh job
+-- "all pages free", and so counted, and one fresh job; its map is 0 to N-1
 abbrev pub start : Machine → Tables
-start m = tablesOf (replicate (sum (m .pageCounts)) 0) (replicate wordsPerJob 0) (m .pageCounts)
+start m = tablesOf (replicate (sum (m .pageCounts)) 0) (replicate wordsPerJob 0) (m .pageCounts) (identityMaps (nodeCount m) 1)
 
 -- the mask of some node numbers
 abbrev pub nodes : List ℕ → ℕ
@@ -105,5 +106,5 @@ right (effective calls wanted) =
 
 -- "Those marked T are proved together"
 pub all-right : T (all right table)
-unfolding openBasics openMachine openMasks openRecords openSearchOrder openCalls openBook
+unfolding openBasics openMachine openMasks openRecords openMaps openSearchOrder openCalls openBook
 all-right = tt

@@ -8,12 +8,12 @@ use mathlib.Core.Option.{Option, none, some}
 use lib.ListN.{length}
 use Rattle.rules.specs.Basics.{keep, first, from}
 use Rattle.rules.specs.Machine.{Machine, nodeCount, nodesOk, pagesOk, machineOk, pageTableOk}
-use Rattle.rules.specs.Records.{jobTableOk, recordAt, wellFormed}
+use Rattle.rules.specs.Records.{recordAt, wellFormed}
 use Rattle.rules.specs.SearchOrder.{Try, freePages, hasRoom}
 use Rattle.rules.specs.Decisions.{Decision, refuse, accept, unless}
-use Rattle.rules.specs.Calls.{Answer, Tables, tablesOf, Change, Outcome, outcome, applied, granting, freeing, freeingAll, isJob, isCpu, holds, orderOf}
-use Rattle.rules.specs.Calls.{installDecision, rebindDecision, clearDecision}
-use Rattle.rules.specs.Book.{Call, request, release, install, rebind, clear, freshTable}
+use Rattle.rules.specs.Calls.{Answer, Tables, tablesOf, Change, Outcome, outcome, applied, granting, freeing, freeingAll, isJob, isCpu}
+use Rattle.rules.specs.Calls.{jobsOk, isMapped, holds, orderOf, installDecision, rebindDecision, clearDecision, keepDecision, setMapDecision}
+use Rattle.rules.specs.Book.{Call, request, release, install, rebind, clear, freshTable, keepNodes, setMap}
 
 -- ---- counts that match
 
@@ -27,7 +27,8 @@ Matches counts t = t .free ≡ freeCounts counts (t .ledger)
 
 -- an outcome with the counts of its page table
 abbrev pub recounted : List ℕ → Outcome → Outcome
-recounted counts o = outcome (o .answer) (tablesOf (o .tables .ledger) (o .tables .records) (freeCounts counts (o .tables .ledger)))
+recounted counts o =
+    outcome (o .answer) (tablesOf (o .tables .ledger) (o .tables .records) (freeCounts counts (o .tables .ledger)) (o .tables .maps))
 
 -- ---- the law without counts
 
@@ -40,26 +41,28 @@ unfoldable pub serveUncounted : List ℕ → Tables → ℕ → Option Try → D
 serveUncounted counts t j none = refuse 8
 serveUncounted counts t j (some s) = accept (granting counts t j s)
 
--- "Order: request 1, 2, 3, 4, 8"; "1 looks only at what a call is lent: all tables at request"
+-- "Order: request 1, 2", 15, "3, 4, 8"; "1 looks only at what a call is lent: all tables at request"
 unfoldable pub requestUncounted : Machine → Tables → ℕ → ℕ → Decision Change
 requestUncounted m t j k =
-    unless (machineOk m && pageTableOk (m .pageCounts) (length (t .ledger)) && jobTableOk (length (t .records))) 1
+    unless (machineOk m && pageTableOk (m .pageCounts) (length (t .ledger)) && jobsOk (length (t .records)) (length (t .maps))) 1
     (unless (isJob (t .records) j) 2
+    (unless (isMapped (nodeCount m) t j) 15
     (unless (isCpu (m .cpuNodes) k) 3
     (unless (wellFormed (nodeCount m) (recordAt (t .records) j)) 4
-    (serveUncounted (m .pageCounts) t j (firstWithRoom (m .pageCounts) (t .ledger) (orderOf m t j k))))))
+    (serveUncounted (m .pageCounts) t j (firstWithRoom (m .pageCounts) (t .ledger) (orderOf m t j k)))))))
 
 -- page counts and page table are in order
 unfoldable pub pagesInOrder : List ℕ → Tables → Bool
 pagesInOrder counts t = nodesOk (length counts) && pagesOk counts && pageTableOk counts (length (t .ledger))
 
--- "release 1, 2, 10"; "1 looks only at .. page counts, page and job table at release"
+-- "release 1, 2", 15, "10"; "1 looks only at .. page counts, page and job table at release", and the maps
 unfoldable pub releaseUncounted : List ℕ → Tables → ℕ → ℕ → Decision Change
 releaseUncounted counts t j p =
-    unless (pagesInOrder counts t && jobTableOk (length (t .records))) 1
+    unless (pagesInOrder counts t && jobsOk (length (t .records)) (length (t .maps))) 1
     (unless (isJob (t .records) j) 2
+    (unless (isMapped (length counts) t j) 15
     (unless (holds counts (t .ledger) j p) 10
-    (accept (freeing counts (t .free) p))))
+    (accept (freeing counts t j p)))))
 
 -- the fresh table: 1 alone
 unfoldable pub freshUncounted : List ℕ → Tables → Decision Change
@@ -68,10 +71,12 @@ freshUncounted counts t = unless (pagesInOrder counts t) 1 (accept (freeingAll c
 unfoldable pub decisionUncounted : Machine → Tables → Call → Decision Change
 decisionUncounted m t (request j k) = requestUncounted m t j k
 decisionUncounted m t (release j p) = releaseUncounted (m .pageCounts) t j p
-decisionUncounted m t (install j p) = installDecision (nodeCount m) (t .records) j p
+decisionUncounted m t (install j p) = installDecision (nodeCount m) t j p
 decisionUncounted m t (rebind j allowed) = rebindDecision (nodeCount m) (t .records) j allowed
 decisionUncounted m t (clear j) = clearDecision (nodeCount m) (t .records) j
 decisionUncounted m t freshTable = freshUncounted (m .pageCounts) t
+decisionUncounted m t (keepNodes j kept) = keepDecision (nodeCount m) t j kept
+decisionUncounted m t (setMap j nodes) = setMapDecision (nodeCount m) t j nodes
 
 -- one call, decided by the page table alone: no test reads a count, and whatever counts a change sets, these are counted anew
 unfoldable pub stepUncounted : Machine → Tables → Call → Outcome

@@ -5,8 +5,9 @@ use mathlib.Core.List.{List, [], _∷_, _++_, map}
 use lib.ListN.{length, getD, take, drop, replicate}
 use lib.Dec.{leb, ltb, eqb}
 use Rattle.rules.specs.Basics.{from, sum, between, allAt}
-use Rattle.rules.specs.Machine.{Machine, machineOk}
+use Rattle.rules.specs.Machine.{Machine, nodeCount, machineOk}
 use Rattle.rules.specs.Records.{bytesOf, fromBytes, wordsPerJob, placesPerJob, mostJobs, policy}
+use Rattle.rules.specs.Maps.{identityMaps}
 use Rattle.rules.specs.Decisions.{Decision, refuse, accept, unless, then, decided, Written, written}
 use Rattle.rules.specs.Calls.{Tables, tablesOf, refused, numbers}
 use Rattle.rules.specs.Book.{Call, request, release, install, rebind, clear, step}
@@ -59,9 +60,11 @@ machineIn bs = record {
 abbrev pub journalPages : ℕ
 journalPages = 16384
 
--- "64 fresh jobs"; every page is free, and so counted
+-- "64 fresh jobs"; every page is free, and so counted; M-103: "Journal jobs have map 0 to N-1"
 unfoldable pub startOf : Machine → Tables
-startOf m = tablesOf (replicate (sum (m .pageCounts)) 0) (replicate (wordsPerJob * mostJobs) 0) (m .pageCounts)
+startOf m =
+    tablesOf (replicate (sum (m .pageCounts)) 0) (replicate (wordsPerJob * mostJobs) 0) (m .pageCounts)
+    (identityMaps (nodeCount m) mostJobs)
 
 -- "kind (1 request, 2 release, 3 rebind, 4 install, 5 clear)"
 pub data Kind : Type 0 where

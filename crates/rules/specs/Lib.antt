@@ -2,12 +2,14 @@ pub mod Basics
 pub mod Machine
 pub mod Masks
 pub mod Records
+pub mod Maps
 pub mod SearchOrder
 pub mod Decisions
 pub mod Near
 pub mod Calls
 pub mod Book
 pub mod FreeCounts
+pub mod Unmapped
 pub mod Ledger
 pub mod Text
 pub mod Journal
@@ -16,3 +18,4 @@ pub mod Examples
 pub mod MoreExamples
 pub mod CountExamples
 pub mod NearExamples
+pub mod MapExamples

@@ -1,7 +1,7 @@
 -- Document 01, "Masks". Everything is over the number of bits w of a mask; the masks of the records have 64.
 use Prim.Native.Nat.{ℕ, zero, suc, _+_, _-_, _*_, _/_, _%_, _^_}
 use mathlib.Core.Bool.{Bool, _&&_, cond}
-use lib.Bits.{bitAnd}
+use lib.Bits.{bitAnd, bitOr}
 use lib.Dec.{eqb, ltb}
 
 -- "N nodes, 1 to 64": the masks of a record have a bit for each
@@ -31,6 +31,10 @@ allNodes n = 2 ^ n - 1
 -- the nodes in both masks
 abbrev pub both : ℕ → ℕ → ℕ
 both a b = bitAnd a b
+
+-- the nodes in one of two masks
+abbrev pub either : ℕ → ℕ → ℕ
+either a b = bitOr a b
 
 -- all nodes of a are in b
 abbrev pub within : ℕ → ℕ → Bool

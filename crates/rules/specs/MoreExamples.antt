@@ -11,6 +11,7 @@ use Rattle.rules.specs.Basics.{openBasics, all, from, same}
 use Rattle.rules.specs.Machine.{openMachine, Machine, nodeCount}
 use Rattle.rules.specs.Masks.{openMasks}
 use Rattle.rules.specs.Records.{openRecords, wellFormed, decode}
+use Rattle.rules.specs.Maps.{openMaps}
 use Rattle.rules.specs.SearchOrder.{openSearchOrder, near}
 use Rattle.rules.specs.Decisions.{openDecisions, Decision, refuse, accept}
 use Rattle.rules.specs.Calls.{openCalls, Answer, granted, released, done, refused}
@@ -155,8 +156,9 @@ runs =
     -- a released page is free, and its byte is another's no longer; held pages stay held over a clear
     ∷ run machineA (rebind 0 15 ∷ ask ∷ release 0 0 ∷ release 0 0 ∷ ask ∷ []) (done ∷ page 0 ∷ released 0 0 ∷ refused 10 ∷ page 0 ∷ [])
     ∷ run machineA (rebind 0 15 ∷ ask ∷ clear 0 ∷ rebind 0 15 ∷ ask ∷ release 0 0 ∷ []) (done ∷ page 0 ∷ done ∷ done ∷ page 1 ∷ released 0 0 ∷ [])
-    -- a place at N or above, or not allowed, is passed over
-    ∷ run machineA (rebind 0 7 ∷ installs 0 5 0 0 (255 ∷ 3 ∷ 1 ∷ []) ∷ ask ∷ ask ∷ ask ∷ []) (done ∷ done ∷ page 2 ∷ page 3 ∷ refused 8 ∷ [])
+    -- a place that is not allowed is passed over; one at N or above is past the end of the map 0 to N-1 (M-103)
+    ∷ run machineA (rebind 0 7 ∷ installs 0 5 0 0 (3 ∷ 1 ∷ []) ∷ ask ∷ ask ∷ ask ∷ []) (done ∷ done ∷ page 2 ∷ page 3 ∷ refused 8 ∷ [])
+    ∷ run machineA (rebind 0 7 ∷ installs 0 5 0 0 (4 ∷ 1 ∷ []) ∷ installs 0 5 0 0 (255 ∷ 3 ∷ 1 ∷ []) ∷ []) (done ∷ refused 6 ∷ refused 6 ∷ [])
     ∷ []
 
 -- "Refusal numbers": the order of the refusals, call by call
@@ -256,5 +258,5 @@ journals =
     ∷ []
 
 pub all-right : T (all right (texts ++ runs ++ refusals ++ records ++ journals))
-unfolding openBasics openMachine openMasks openRecords openSearchOrder openDecisions openCalls openBook openText openJournal
+unfolding openBasics openMachine openMasks openRecords openMaps openSearchOrder openDecisions openCalls openBook openText openJournal
 all-right = tt

@@ -1,13 +1,17 @@
 // The shared types of the placer. The rules themselves, document 01 as definitions, are in specs/.
 
 ghost use mathlib.Core.Path.{_≡_};
-ghost use mathlib.Core.List.{[], _∷_};
-ghost use Prim.Native.Nat.{min};
+ghost use mathlib.Core.List.{[], _∷_, _++_};
+ghost use Prim.Native.Nat.{ℕ, min};
+ghost use lib.ListN.{take, replicate};
 ghost use Rattle.rules.specs.Calls.{numbers};
 ghost use Rattle.rules.specs.Answers.{numberOf, answerOf, decisionOf, numbersIn, inNumbers, numberIn, orderedOf, orderNumbers, orderNumbersIn};
 
-// A node number, a page number and a place in a list are three kinds of number.
-pub struct Node(pub u8);
+// A node number, a page number and a place in a list are three kinds of number; and a node's number on the machine, by which the tables
+// go, is another than its number in a job's map, by which the job goes.
+pub struct SysNode(pub u8);
+
+pub struct AppNode(pub u8);
 
 pub struct Page(pub u32);
 
@@ -22,8 +26,11 @@ pub const WORDS_PER_JOB: usize = 6;
 
 pub const PLACES_PER_JOB: usize = 16;
 
-// Node and page of an answer that names none.
-const NO_NODE: u8 = 0xFF;
+// "64 bytes a job": a job's map.
+pub const MAP_BYTES: usize = 64;
+
+// Node and page of an answer that names none; and the bytes behind the nodes of a map.
+pub const NO_NODE: u8 = 0xFF;
 
 const NO_PAGE: u32 = 0xFFFF_FFFF;
 
@@ -37,7 +44,18 @@ pub fn lower(a: u8, b: u8) -> u8
     b
 }
 
-// Why a call was refused: document 01, "Refusal numbers", from 1 on; 14 is of request M-100.
+// Copies a list over equal bytes: its first entries, as many as have room.
+pub fn copy_first(list: &[u8], out: &mut [u8])
+    ensures { λ _. ⌜ ((w v : ℕ) → now (out .entry) ≡ replicate w v → now (out .exit) ≡ take w (now (list .entry) ++ replicate w v)) ⌝ }
+{
+    let mut i: usize = 0;
+    while (i < list.len()) & (i < out.len()) {
+        out[i] = list[i];
+        i += 1;
+    }
+}
+
+// Why a call was refused: document 01, "Refusal numbers", from 1 on; 14 is of request M-100, 15 of M-103.
 pub enum Refusal {
     BadTables,
     NoSuchJob,
@@ -53,12 +71,13 @@ pub enum Refusal {
     BadText,
     DamagedJournal,
     WrongCount,
+    BadMap,
 }
 
-// What a call answers.
+// What a call answers. A node is named by its number in the job's map, FF where it has none.
 pub enum Answer {
-    Granted(Node, Page),
-    Released(Node, Page),
+    Granted(AppNode, Page),
+    Released(AppNode, Page),
     Done,
     Refused(Refusal),
 }
@@ -118,6 +137,7 @@ impl Refusal {
             Refusal::BadText => 12,
             Refusal::DamagedJournal => 13,
             Refusal::WrongCount => 14,
+            Refusal::BadMap => 15,
         }
     }
 }

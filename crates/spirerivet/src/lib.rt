@@ -4,7 +4,7 @@ ghost use mathlib.Core.Path.{_≡_};
 ghost use Prim.Native.Nat.{ℕ};
 ghost use lib.ListN.{replicate};
 ghost use Rattle.rules.specs.Answers.{numbersIn, numberIn, inNumbers, orderNumbersIn, told, toldOf};
-ghost use Rattle.rules.specs.Calls.{Tables, tablesOf, withRecords, withPages, onRequest, onRelease, onFresh, onInstall, onRebind, onClear};
+ghost use Rattle.rules.specs.Calls.{Tables, tablesOf, withRecords, withPages, withJobs, onRequest, onRelease, onFresh, onInstall, onRebind, onClear, onKeep, onSetMap};
 ghost use Rattle.rules.specs.Journal.{writeJournal};
 ghost use Rattle.rules.specs.Near.{onNear};
 ghost use Rattle.rules.specs.Records.{policy};
@@ -19,6 +19,7 @@ use machine::listing;
 use nodelist;
 use placement;
 use records;
+use records::mapping;
 use replay;
 use rules::Number;
 use rules::Numbers;
@@ -33,12 +34,13 @@ pub extern "C" fn spire_request(
     pages: &mut [u8],
     jobs: &mut [u64],
     free: &mut [u32],
+    maps: &[u8],
     job: usize,
     cpu: usize,
 ) -> Numbers
-    ensures { λ r. ⌜ told (numbersIn r) (tablesOf (now (pages .exit)) (now (jobs .exit)) (now (free .exit))) ≡ toldOf (onRequest (machineOf (now (counts .entry)) (now (cpus .entry)) (now (distances .entry))) (tablesOf (now (pages .entry)) (now (jobs .entry)) (now (free .entry))) job cpu) ⌝ }
+    ensures { λ r. ⌜ told (numbersIn r) (tablesOf (now (pages .exit)) (now (jobs .exit)) (now (free .exit)) (now (maps .entry))) ≡ toldOf (onRequest (machineOf (now (counts .entry)) (now (cpus .entry)) (now (distances .entry))) (tablesOf (now (pages .entry)) (now (jobs .entry)) (now (free .entry)) (now (maps .entry))) job cpu) ⌝ }
 {
-    placement::request(counts, cpus, distances, pages, jobs, free, job, cpu).numbers()
+    placement::request(counts, cpus, distances, pages, jobs, free, maps, job, cpu).numbers()
 }
 
 // A page given back by its job.
@@ -48,12 +50,13 @@ pub extern "C" fn spire_release(
     pages: &mut [u8],
     jobs: &[u64],
     free: &mut [u32],
+    maps: &[u8],
     job: usize,
     page: usize,
 ) -> Numbers
-    ensures { λ r. ⌜ told (numbersIn r) (tablesOf (now (pages .exit)) (now (jobs .entry)) (now (free .exit))) ≡ toldOf (onRelease (now (counts .entry)) (tablesOf (now (pages .entry)) (now (jobs .entry)) (now (free .entry))) job page) ⌝ }
+    ensures { λ r. ⌜ told (numbersIn r) (tablesOf (now (pages .exit)) (now (jobs .entry)) (now (free .exit)) (now (maps .entry))) ≡ toldOf (onRelease (now (counts .entry)) (tablesOf (now (pages .entry)) (now (jobs .entry)) (now (free .entry)) (now (maps .entry))) job page) ⌝ }
 {
-    placement::release(counts, pages, jobs, free, job, page).numbers()
+    placement::release(counts, pages, jobs, free, maps, job, page).numbers()
 }
 
 // Every page of the machine made free, and the free counts made.
@@ -69,15 +72,16 @@ pub extern "C" fn spire_fresh(counts: &[u32], pages: &mut [u8], free: &mut [u32]
 pub extern "C" fn spire_install(
     nodes: usize,
     jobs: &mut [u64],
+    maps: &[u8],
     job: usize,
     mode: u64,
     flag: u64,
     mask: u64,
     places: &[u8],
 ) -> Numbers
-    ensures { λ r. ⌜ ((t : Tables) → told (numbersIn r) (withRecords t (now (jobs .exit))) ≡ toldOf (onInstall nodes (withRecords t (now (jobs .entry))) job (policy mode flag mask (now (places .entry))))) ⌝ }
+    ensures { λ r. ⌜ ((t : Tables) → told (numbersIn r) (withJobs t (now (jobs .exit)) (now (maps .entry))) ≡ toldOf (onInstall nodes (withJobs t (now (jobs .entry)) (now (maps .entry))) job (policy mode flag mask (now (places .entry))))) ⌝ }
 {
-    records::install(nodes, jobs, job, mode, flag, mask, places).numbers()
+    records::install(nodes, jobs, maps, job, mode, flag, mask, places).numbers()
 }
 
 // A job's allowed nodes.
@@ -94,6 +98,34 @@ pub extern "C" fn spire_clear(nodes: usize, jobs: &mut [u64], job: usize) -> Num
     ensures { λ r. ⌜ ((t : Tables) → told (numbersIn r) (withRecords t (now (jobs .exit))) ≡ toldOf (onClear nodes (withRecords t (now (jobs .entry))) job)) ⌝ }
 {
     records::clear(nodes, jobs, job).numbers()
+}
+
+// The tenant's call: the nodes of its map that a job keeps.
+#[no_mangle]
+pub extern "C" fn spire_keep_nodes(
+    nodes: usize,
+    jobs: &[u64],
+    maps: &mut [u8],
+    job: usize,
+    kept: &[u8],
+) -> Numbers
+    ensures { λ r. ⌜ ((t : Tables) → told (numbersIn r) (withJobs t (now (jobs .entry)) (now (maps .exit))) ≡ toldOf (onKeep nodes (withJobs t (now (jobs .entry)) (now (maps .entry))) job (now (kept .entry)))) ⌝ }
+{
+    mapping::keep_nodes(nodes, jobs, maps, job, kept).numbers()
+}
+
+// The administrator's call: the nodes of a job's map.
+#[no_mangle]
+pub extern "C" fn spire_set_map(
+    nodes: usize,
+    jobs: &[u64],
+    maps: &mut [u8],
+    job: usize,
+    list: &[u8],
+) -> Numbers
+    ensures { λ r. ⌜ ((t : Tables) → told (numbersIn r) (withJobs t (now (jobs .entry)) (now (maps .exit))) ≡ toldOf (onSetMap nodes (withJobs t (now (jobs .entry)) (now (maps .entry))) job (now (list .entry)))) ⌝ }
+{
+    mapping::set_map(nodes, jobs, maps, job, list).numbers()
 }
 
 // The mask of the nodes that a text names.
@@ -135,14 +167,25 @@ pub extern "C" fn spire_replay(
     pages: &mut [u8],
     jobs: &mut [u64],
     free: &mut [u32],
+    maps: &mut [u8],
     calls: &[u64],
     answers: &mut [u64],
 ) -> Number
-    ensures ran { λ r. ⌜ toldRun (numberIn r) (tablesOf (now (pages .exit)) (now (jobs .exit)) (now (free .exit))) (now (answers .exit)) ≡ toldReplay (onReplay (machineOf (now (counts .entry)) (now (cpus .entry)) (now (distances .entry))) (tablesOf (now (pages .entry)) (now (jobs .entry)) (now (free .entry))) (now (calls .entry)) (now (answers .entry))) ⌝ }
-    ensures fair { λ r. ⌜ Demand3 (machineOf (now (counts .entry)) (now (cpus .entry)) (now (distances .entry))) (tablesOf (now (pages .entry)) (now (jobs .entry)) (now (free .entry))) (callsIn (now (calls .entry))) ⌝ }
-    ensures ledger { λ r. ⌜ ((k : ℕ) → now (pages .entry) ≡ replicate k 0 → r .refusal ≡ 0 → Belongs (machineOf (now (counts .entry)) (now (cpus .entry)) (now (distances .entry))) (tablesOf (now (pages .entry)) (now (jobs .entry)) (now (free .entry))) (callsIn (now (calls .entry))) (now (pages .exit))) ⌝ }
+    ensures ran { λ r. ⌜ toldRun (numberIn r) (tablesOf (now (pages .exit)) (now (jobs .exit)) (now (free .exit)) (now (maps .exit))) (now (answers .exit)) ≡ toldReplay (onReplay (machineOf (now (counts .entry)) (now (cpus .entry)) (now (distances .entry))) (tablesOf (now (pages .entry)) (now (jobs .entry)) (now (free .entry)) (now (maps .entry))) (now (calls .entry)) (now (answers .entry))) ⌝ }
+    ensures fair { λ r. ⌜ Demand3 (machineOf (now (counts .entry)) (now (cpus .entry)) (now (distances .entry))) (tablesOf (now (pages .entry)) (now (jobs .entry)) (now (free .entry)) (now (maps .entry))) (callsIn (now (calls .entry))) ⌝ }
+    ensures ledger { λ r. ⌜ ((k : ℕ) → now (pages .entry) ≡ replicate k 0 → r .refusal ≡ 0 → Belongs (machineOf (now (counts .entry)) (now (cpus .entry)) (now (distances .entry))) (tablesOf (now (pages .entry)) (now (jobs .entry)) (now (free .entry)) (now (maps .entry))) (callsIn (now (calls .entry))) (now (pages .exit))) ⌝ }
 {
-    replay::replay(counts, cpus, distances, pages, jobs, free, calls, answers).number()
+    replay::replay(
+        counts,
+        cpus,
+        distances,
+        pages,
+        jobs,
+        free,
+        maps,
+        calls,
+        answers,
+    ).number()
 }
 
 // A whole journal; its answers at the start of the output, and their length.

@@ -1,6 +1,6 @@
-//! Rents out machine A of document 01 to three tenants, and tells what happens.
+//! Rents out machine A of document 01 to three tenants, the last with a map of its own, and tells what happens.
 
-use spirerivet::{flag, mode, Answer, JOB_WORDS};
+use spirerivet::{flag, mode, Answer, AppNode, SysNode, JOB_WORDS};
 
 /// The machine: page counts, the node of each CPU, and the distances.
 const COUNTS: [u32; 4] = [2, 2, 0, 2];
@@ -21,6 +21,7 @@ struct House {
     pages: [u8; 6],
     jobs: [u64; 3 * JOB_WORDS],
     free: [u32; 4],
+    maps: Vec<u8>,
     story: String,
 }
 
@@ -29,7 +30,8 @@ impl House {
     fn tell(&mut self, asked: &str, answer: Answer) {
         let words = match answer {
             Answer::Granted { node, page } => format!("node {node}, page {page}"),
-            Answer::Released { node, page } => format!("node {node}, page {page} is free"),
+            Answer::Released { node: Some(node), page } => format!("node {node}, page {page} is free"),
+            Answer::Released { node: None, page } => format!("page {page}, outside its map, is free"),
             Answer::Done => String::from("done"),
             Answer::Refused(refusal) => refusal.to_string(),
         };
@@ -65,22 +67,36 @@ impl House {
         self.tell(&format!("tenant {job} rents nodes {list}"), answer);
     }
 
-    /// Sets a tenant's policy.
-    fn policy(&mut self, job: usize, words: &str, mode: u64, flag: u64, mask: u64, places: &[u8]) {
-        let answer = spirerivet::install(COUNTS.len(), &mut self.jobs, job, mode, flag, mask, places);
+    /// Gives a tenant nodes of the machine that it numbers from 0.
+    fn number(&mut self, job: usize, nodes: &[SysNode]) {
+        let answer = spirerivet::set_map(COUNTS.len(), &self.jobs, &mut self.maps, job, nodes);
+        let list: Vec<String> = nodes.iter().map(SysNode::to_string).collect();
+        self.tell(&format!("tenant {job} gets {} as its 0, 1", list.join(", ")), answer);
+    }
+
+    /// A tenant keeps one of its nodes and drops the others.
+    fn keep(&mut self, job: usize, node: AppNode) {
+        let answer = spirerivet::keep_nodes(COUNTS.len(), &self.jobs, &mut self.maps, job, &[node]);
+        self.tell(&format!("tenant {job} keeps its node {node} alone"), answer);
+    }
+
+    /// Sets a tenant's policy, by its own numbers.
+    fn policy(&mut self, job: usize, words: &str, mode: u64, flag: u64, mask: u64, places: &[AppNode]) {
+        let answer = spirerivet::install(COUNTS.len(), &mut self.jobs, &self.maps, job, mode, flag, mask, places);
         self.tell(&format!("tenant {job} wants {words}"), answer);
     }
 
     /// A tenant's program needs a page on a CPU.
     fn need(&mut self, job: usize, cpu: usize) {
-        let House { pages, jobs, free, .. } = self;
-        let answer = spirerivet::request(&COUNTS, &CPUS, &DISTANCES, pages, jobs, free, job, cpu);
+        let House { pages, jobs, free, maps, .. } = self;
+        let answer = spirerivet::request(&COUNTS, &CPUS, &DISTANCES, pages, jobs, free, maps, job, cpu);
         self.tell(&format!("tenant {job} needs a page on CPU {cpu}"), answer);
     }
 
     /// A tenant gives a page back.
     fn give_back(&mut self, job: usize, page: usize) {
-        let answer = spirerivet::release(&COUNTS, &mut self.pages, &self.jobs, &mut self.free, job, page);
+        let House { pages, jobs, free, maps, .. } = self;
+        let answer = spirerivet::release(&COUNTS, pages, jobs, free, maps, job, page);
         self.tell(&format!("tenant {job} gives page {page} back"), answer);
     }
 
@@ -93,12 +109,13 @@ impl House {
 
 /// The whole story.
 pub fn story() -> String {
-    let mut house = House { pages: [0; 6], jobs: [0; 3 * JOB_WORDS], free: [0; 4], story: String::new() };
+    let maps = spirerivet::identity_maps(COUNTS.len(), 3);
+    let mut house = House { pages: [0; 6], jobs: [0; 3 * JOB_WORDS], free: [0; 4], maps, story: String::new() };
     house.open();
     house.look(2);
     house.look(4);
     house.rent(0, "0-3");
-    house.policy(0, "turns over 3, 3, 1", mode::RING, flag::NONE, 0, &[3, 3, 1]);
+    house.policy(0, "turns over 3, 3, 1", mode::RING, flag::NONE, 0, &[AppNode(3), AppNode(3), AppNode(1)]);
     house.need(0, 0);
     house.need(0, 0);
     house.need(0, 0);
@@ -108,12 +125,18 @@ pub fn story() -> String {
     house.give_back(0, 4);
     house.give_back(1, 5);
     house.rent(2, "1-3");
-    house.policy(2, "to spread over 1-3", mode::INTERLEAVE, flag::STATIC, 0b1110, &[]);
+    house.number(2, &[SysNode(3), SysNode(1)]);
+    house.policy(2, "to spread over its 0, 1", mode::INTERLEAVE, flag::STATIC, 0b11, &[]);
     house.need(2, 0);
     house.need(2, 0);
+    house.need(2, 0);
+    house.keep(2, AppNode(0));
+    house.keep(2, AppNode(1));
+    house.give_back(2, 3);
+    house.need(2, 0);
+    house.give_back(2, 4);
     house.need(2, 0);
     house.leave(2);
-    house.give_back(2, 3);
     for (node, marks) in nodes(&house.pages).iter().enumerate() {
         let (free, all) = (house.free[node], COUNTS[node]);
         house.story.push_str(&format!("node {node:2}  {free} of {all} free  |{marks}|\n"));

@@ -2,11 +2,13 @@
 
 use std::fmt;
 
-/// The answer of a call.
+use crate::node::AppNode;
+
+/// The answer of a call. A node is told by the job's own number; a page that is given back may lie outside the job's map.
 #[derive(Clone, Copy, Debug, PartialEq, Eq)]
 pub enum Answer {
-    Granted { node: u8, page: u32 },
-    Released { node: u8, page: u32 },
+    Granted { node: AppNode, page: u32 },
+    Released { node: Option<AppNode>, page: u32 },
     Done,
     Refused(Refusal),
 }
@@ -38,11 +40,14 @@ pub enum Refusal {
     /// A free count disagrees with the page table: a node counted above 0 has no free page, or a release would count more
     /// free pages than its node has. Count the free pages of each node anew, or call `fresh` when no page is in use.
     WrongCount,
+    /// The job's map is none: empty, with a node twice or one that the machine does not have, or with a node after its end.
+    /// The administrator sets it anew by `set_map`. Or the list of `keep_nodes` or `set_map` is no good one.
+    BadMap,
 }
 
 impl Refusal {
     /// Every refusal there is.
-    pub const ALL: [Refusal; 14] = [
+    pub const ALL: [Refusal; 15] = [
         Refusal::BadTables,
         Refusal::NoSuchJob,
         Refusal::NoSuchCpu,
@@ -57,6 +62,7 @@ impl Refusal {
         Refusal::BadText,
         Refusal::DamagedJournal,
         Refusal::WrongCount,
+        Refusal::BadMap,
     ];
 
     /// Its number in the papers.
@@ -81,12 +87,12 @@ mod tests {
     use super::*;
 
     #[test]
-    fn numbers_go_from_1_to_14() {
+    fn numbers_go_from_1_to_15() {
         for (index, refusal) in Refusal::ALL.into_iter().enumerate() {
             assert_eq!(usize::from(refusal.number()), index + 1);
             assert_eq!(Refusal::of_number(refusal.number()), Some(refusal));
         }
         assert_eq!(Refusal::of_number(0), None);
-        assert_eq!(Refusal::of_number(15), None);
+        assert_eq!(Refusal::of_number(16), None);
     }
 }

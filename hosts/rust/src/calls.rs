@@ -2,10 +2,21 @@
 
 use crate::answer::{Answer, Order, Refusal};
 use crate::ffi::{self, HostAnswer, HostNumber, HostOrder};
+use crate::node::{AppNode, SysNode};
 
 /// Node and page of an answer that names none.
 pub const NO_NODE: u8 = 255;
 pub const NO_PAGE: u32 = u32::MAX;
+
+/// What was granted: a node by the job's own number.
+pub fn granted(node: u8, page: u32) -> Answer {
+    Answer::Granted { node: AppNode(node), page }
+}
+
+/// What was given back; the node is FF where it is outside the job's map.
+pub fn released(node: u8, page: u32) -> Answer {
+    Answer::Released { node: (node != NO_NODE).then_some(AppNode(node)), page }
+}
 
 /// The refusal of a number that is not 0.
 pub fn refusal_of(number: u8) -> Refusal {
@@ -50,8 +61,9 @@ fn order(raw: HostOrder) -> Result<Order, Refusal> {
     Err(refusal_of(raw.refusal))
 }
 
-/// Takes one page for a job, by its record's search order as seen from a CPU. `free` has the number of free pages of each
-/// node and is kept up; nodes counted 0 are passed over.
+/// Takes one page for a job, by its record's search order as seen from a CPU, from the allowed nodes that are in its map;
+/// the node is told by the job's own number. `free` has the number of free pages of each node and is kept up; nodes counted
+/// 0 are passed over.
 #[inline]
 pub fn request(
     counts: &[u32],
@@ -60,17 +72,25 @@ pub fn request(
     pages: &mut [u8],
     jobs: &mut [u64],
     free: &mut [u32],
+    maps: &[u8],
     job: usize,
     cpu: usize,
 ) -> Answer {
-    let raw = ffi::request(counts, cpus, distances, pages, jobs, free, job, cpu);
-    answer(raw, |node, page| Answer::Granted { node, page })
+    answer(ffi::request(counts, cpus, distances, pages, jobs, free, maps, job, cpu), granted)
 }
 
-/// Gives a page back that the job holds; `free` is kept up.
+/// Gives a page back that the job holds; `free` is kept up. The node is told by the job's own number, if it has one for it.
 #[inline]
-pub fn release(counts: &[u32], pages: &mut [u8], jobs: &[u64], free: &mut [u32], job: usize, page: usize) -> Answer {
-    answer(ffi::release(counts, pages, jobs, free, job, page), |node, page| Answer::Released { node, page })
+pub fn release(
+    counts: &[u32],
+    pages: &mut [u8],
+    jobs: &[u64],
+    free: &mut [u32],
+    maps: &[u8],
+    job: usize,
+    page: usize,
+) -> Answer {
+    answer(ffi::release(counts, pages, jobs, free, maps, job, page), released)
 }
 
 /// Frees every page of the machine and makes its free counts: what a host begins with. Bytes past the last page stay.
@@ -79,13 +99,33 @@ pub fn fresh(counts: &[u32], pages: &mut [u8], free: &mut [u32]) -> Answer {
     answer(ffi::fresh(counts, pages, free), done)
 }
 
-/// Sets a job's policy: a mode of `mode`, a flag of `flag`, a user mask or places.
+/// Sets a job's policy: a mode of `mode`, a flag of `flag`, a user mask or places. Places, and the bits of a mask that is not
+/// relative, are the job's own numbers; the record gets the machine's.
 #[inline]
-pub fn install(nodes: usize, jobs: &mut [u64], job: usize, mode: u64, flag: u64, mask: u64, places: &[u8]) -> Answer {
-    answer(ffi::install(nodes, jobs, job, mode, flag, mask, places), done)
+pub fn install(
+    nodes: usize,
+    jobs: &mut [u64],
+    maps: &[u8],
+    job: usize,
+    mode: u64,
+    flag: u64,
+    mask: u64,
+    places: &[AppNode],
+) -> Answer {
+    answer(ffi::install(nodes, jobs, maps, job, mode, flag, mask, places), done)
 }
 
-/// Sets the nodes that a job may use.
+/// The tenant's call: its job keeps some of the nodes of its map, one or more, in rising order, and drops the others.
+pub fn keep_nodes(nodes: usize, jobs: &[u64], maps: &mut [u8], job: usize, kept: &[AppNode]) -> Answer {
+    answer(ffi::keep_nodes(nodes, jobs, maps, job, kept), done)
+}
+
+/// The administrator's call: gives a job a map, whatever it had before; 1 to 64 different nodes of the machine.
+pub fn set_map(nodes: usize, jobs: &[u64], maps: &mut [u8], job: usize, list: &[SysNode]) -> Answer {
+    answer(ffi::set_map(nodes, jobs, maps, job, list), done)
+}
+
+/// Sets the nodes that a job may use, by the machine's numbers.
 #[inline]
 pub fn rebind(nodes: usize, jobs: &mut [u64], job: usize, allowed: u64) -> Answer {
     answer(ffi::rebind(nodes, jobs, job, allowed), done)
@@ -107,7 +147,7 @@ pub fn write_nodes(nodes: usize, mask: u64, out: &mut [u8]) -> Result<usize, Ref
     number(ffi::write_nodes(nodes, mask, out)).map(|length| length as usize)
 }
 
-/// Writes near(x) over a set of nodes, x being `node`, a byte for each node; gives how many, and in how many rounds of its
+/// Writes near(x) over a set of the machine's nodes, x being `node`, a byte for each node; gives how many, and in how many rounds of its
 /// loops: one for each node of the machine, then one for each node listed other than x. 64 bytes are always enough.
 #[inline]
 pub fn near(nodes: usize, distances: &[u8], set: u64, node: usize, out: &mut [u8]) -> Result<Order, Refusal> {
@@ -123,10 +163,11 @@ pub fn replay(
     pages: &mut [u8],
     jobs: &mut [u64],
     free: &mut [u32],
+    maps: &mut [u8],
     calls: &[u64],
     answers: &mut [u64],
 ) -> Result<usize, Refusal> {
-    number(ffi::replay(counts, cpus, distances, pages, jobs, free, calls, answers)).map(|ran| ran as usize)
+    number(ffi::replay(counts, cpus, distances, pages, jobs, free, maps, calls, answers)).map(|ran| ran as usize)
 }
 
 /// Runs a whole journal and writes its answers, 12 bytes each; gives their length. Refused 11 exactly when the output is

@@ -6,6 +6,8 @@
 
 #![allow(unsafe_code)]
 
+use crate::node::{AppNode, SysNode};
+
 /// Refusal 0 is done; node 255 and page 0xFFFFFFFF where there is none.
 #[repr(C)]
 pub struct HostAnswer {
@@ -34,22 +36,32 @@ extern "C" {
     fn spire_request(
         counts: *const u32, counts_len: usize, cpus: *const u8, cpus_len: usize,
         distances: *const u8, distances_len: usize, pages: *mut u8, pages_len: usize,
-        jobs: *mut u64, jobs_len: usize, free: *mut u32, free_len: usize, job: usize, cpu: usize,
+        jobs: *mut u64, jobs_len: usize, free: *mut u32, free_len: usize, maps: *const u8, maps_len: usize,
+        job: usize, cpu: usize,
     ) -> HostAnswer;
     fn spire_release(
         counts: *const u32, counts_len: usize, pages: *mut u8, pages_len: usize,
-        jobs: *const u64, jobs_len: usize, free: *mut u32, free_len: usize, job: usize, page: usize,
+        jobs: *const u64, jobs_len: usize, free: *mut u32, free_len: usize, maps: *const u8, maps_len: usize,
+        job: usize, page: usize,
     ) -> HostAnswer;
     fn spire_fresh(
         counts: *const u32, counts_len: usize, pages: *mut u8, pages_len: usize,
         free: *mut u32, free_len: usize,
     ) -> HostAnswer;
     fn spire_install(
-        nodes: usize, jobs: *mut u64, jobs_len: usize, job: usize,
-        mode: u64, flag: u64, mask: u64, places: *const u8, places_len: usize,
+        nodes: usize, jobs: *mut u64, jobs_len: usize, maps: *const u8, maps_len: usize, job: usize,
+        mode: u64, flag: u64, mask: u64, places: *const AppNode, places_len: usize,
     ) -> HostAnswer;
     fn spire_rebind(nodes: usize, jobs: *mut u64, jobs_len: usize, job: usize, allowed: u64) -> HostAnswer;
     fn spire_clear(nodes: usize, jobs: *mut u64, jobs_len: usize, job: usize) -> HostAnswer;
+    fn spire_keep_nodes(
+        nodes: usize, jobs: *const u64, jobs_len: usize, maps: *mut u8, maps_len: usize, job: usize,
+        kept: *const AppNode, kept_len: usize,
+    ) -> HostAnswer;
+    fn spire_set_map(
+        nodes: usize, jobs: *const u64, jobs_len: usize, maps: *mut u8, maps_len: usize, job: usize,
+        list: *const SysNode, list_len: usize,
+    ) -> HostAnswer;
     fn spire_read_nodes(nodes: usize, allowed: u64, text: *const u8, text_len: usize) -> HostNumber;
     fn spire_write_nodes(nodes: usize, mask: u64, out: *mut u8, out_len: usize) -> HostNumber;
     fn spire_near(
@@ -59,7 +71,7 @@ extern "C" {
     fn spire_replay(
         counts: *const u32, counts_len: usize, cpus: *const u8, cpus_len: usize,
         distances: *const u8, distances_len: usize, pages: *mut u8, pages_len: usize,
-        jobs: *mut u64, jobs_len: usize, free: *mut u32, free_len: usize,
+        jobs: *mut u64, jobs_len: usize, free: *mut u32, free_len: usize, maps: *mut u8, maps_len: usize,
         calls: *const u64, calls_len: usize, answers: *mut u64, answers_len: usize,
     ) -> HostNumber;
     fn spire_journal(input: *const u8, input_len: usize, output: *mut u8, output_len: usize) -> HostNumber;
@@ -69,12 +81,13 @@ extern "C" {
 #[rustfmt::skip]
 pub fn request(
     counts: &[u32], cpus: &[u8], distances: &[u8], pages: &mut [u8], jobs: &mut [u64], free: &mut [u32],
-    job: usize, cpu: usize,
+    maps: &[u8], job: usize, cpu: usize,
 ) -> HostAnswer {
     unsafe {
         spire_request(
             counts.as_ptr(), counts.len(), cpus.as_ptr(), cpus.len(), distances.as_ptr(), distances.len(),
-            pages.as_mut_ptr(), pages.len(), jobs.as_mut_ptr(), jobs.len(), free.as_mut_ptr(), free.len(), job, cpu,
+            pages.as_mut_ptr(), pages.len(), jobs.as_mut_ptr(), jobs.len(), free.as_mut_ptr(), free.len(),
+            maps.as_ptr(), maps.len(), job, cpu,
         )
     }
 }
@@ -82,12 +95,12 @@ pub fn request(
 #[inline]
 #[rustfmt::skip]
 pub fn release(
-    counts: &[u32], pages: &mut [u8], jobs: &[u64], free: &mut [u32], job: usize, page: usize,
+    counts: &[u32], pages: &mut [u8], jobs: &[u64], free: &mut [u32], maps: &[u8], job: usize, page: usize,
 ) -> HostAnswer {
     unsafe {
         spire_release(
             counts.as_ptr(), counts.len(), pages.as_mut_ptr(), pages.len(), jobs.as_ptr(), jobs.len(),
-            free.as_mut_ptr(), free.len(), job, page,
+            free.as_mut_ptr(), free.len(), maps.as_ptr(), maps.len(), job, page,
         )
     }
 }
@@ -105,11 +118,12 @@ pub fn fresh(counts: &[u32], pages: &mut [u8], free: &mut [u32]) -> HostAnswer {
 #[inline]
 #[rustfmt::skip]
 pub fn install(
-    nodes: usize, jobs: &mut [u64], job: usize, mode: u64, flag: u64, mask: u64, places: &[u8],
+    nodes: usize, jobs: &mut [u64], maps: &[u8], job: usize, mode: u64, flag: u64, mask: u64, places: &[AppNode],
 ) -> HostAnswer {
     unsafe {
         spire_install(
-            nodes, jobs.as_mut_ptr(), jobs.len(), job, mode, flag, mask, places.as_ptr(), places.len(),
+            nodes, jobs.as_mut_ptr(), jobs.len(), maps.as_ptr(), maps.len(), job, mode, flag, mask,
+            places.as_ptr(), places.len(),
         )
     }
 }
@@ -122,6 +136,24 @@ pub fn rebind(nodes: usize, jobs: &mut [u64], job: usize, allowed: u64) -> HostA
 #[inline]
 pub fn clear(nodes: usize, jobs: &mut [u64], job: usize) -> HostAnswer {
     unsafe { spire_clear(nodes, jobs.as_mut_ptr(), jobs.len(), job) }
+}
+
+#[rustfmt::skip]
+pub fn keep_nodes(nodes: usize, jobs: &[u64], maps: &mut [u8], job: usize, kept: &[AppNode]) -> HostAnswer {
+    unsafe {
+        spire_keep_nodes(
+            nodes, jobs.as_ptr(), jobs.len(), maps.as_mut_ptr(), maps.len(), job, kept.as_ptr(), kept.len(),
+        )
+    }
+}
+
+#[rustfmt::skip]
+pub fn set_map(nodes: usize, jobs: &[u64], maps: &mut [u8], job: usize, list: &[SysNode]) -> HostAnswer {
+    unsafe {
+        spire_set_map(
+            nodes, jobs.as_ptr(), jobs.len(), maps.as_mut_ptr(), maps.len(), job, list.as_ptr(), list.len(),
+        )
+    }
 }
 
 pub fn read_nodes(nodes: usize, allowed: u64, text: &[u8]) -> HostNumber {
@@ -140,17 +172,33 @@ pub fn near(nodes: usize, distances: &[u8], set: u64, node: usize, out: &mut [u8
 #[rustfmt::skip]
 pub fn replay(
     counts: &[u32], cpus: &[u8], distances: &[u8], pages: &mut [u8], jobs: &mut [u64], free: &mut [u32],
-    calls: &[u64], answers: &mut [u64],
+    maps: &mut [u8], calls: &[u64], answers: &mut [u64],
 ) -> HostNumber {
     unsafe {
         spire_replay(
             counts.as_ptr(), counts.len(), cpus.as_ptr(), cpus.len(), distances.as_ptr(), distances.len(),
             pages.as_mut_ptr(), pages.len(), jobs.as_mut_ptr(), jobs.len(), free.as_mut_ptr(), free.len(),
-            calls.as_ptr(), calls.len(), answers.as_mut_ptr(), answers.len(),
+            maps.as_mut_ptr(), maps.len(), calls.as_ptr(), calls.len(), answers.as_mut_ptr(), answers.len(),
         )
     }
 }
 
 pub fn journal(input: &[u8], output: &mut [u8]) -> HostNumber {
     unsafe { spire_journal(input.as_ptr(), input.len(), output.as_mut_ptr(), output.len()) }
+}
+
+// SAFETY: a node of either kind is a byte, `repr(transparent)`, and every byte is one. So bytes are a list of nodes.
+
+impl AppNode {
+    /// Bytes as a list of application nodes.
+    pub fn list(bytes: &[u8]) -> &[AppNode] {
+        unsafe { std::slice::from_raw_parts(bytes.as_ptr().cast(), bytes.len()) }
+    }
+}
+
+impl SysNode {
+    /// Bytes as a list of system nodes.
+    pub fn list(bytes: &[u8]) -> &[SysNode] {
+        unsafe { std::slice::from_raw_parts(bytes.as_ptr().cast(), bytes.len()) }
+    }
 }

@@ -1,9 +1,9 @@
 //! The proved memory placer for Rust hosts.
 //!
 //! A thin, safe layer over libspirerivet.a. Tables are lent as slices, laid
-//! out as document 01 says, with a count of free pages for each node; every
-//! call gives its answer or one numbered refusal, and a refused call changes
-//! nothing that it was lent.
+//! out as document 01 says, with a count of free pages for each node and a map
+//! for each job; every call gives its answer or one numbered refusal, and a
+//! refused call changes nothing that it was lent.
 
 #![deny(unsafe_code)]
 
@@ -11,10 +11,15 @@ mod answer;
 mod calls;
 mod ffi;
 mod list;
+mod node;
 
 pub use answer::{Answer, Order, Refusal};
-pub use calls::{clear, fresh, install, journal, near, read_nodes, rebind, release, replay, request, write_nodes};
+pub use calls::{
+    clear, fresh, install, journal, keep_nodes, near, read_nodes, rebind, release, replay, request, set_map,
+    write_nodes,
+};
 pub use list::{answer_of, words_of, Call, CALL_WORDS, MOST_CALL_PLACES};
+pub use node::{identity_maps, AppNode, SysNode, MAP_BYTES, MAP_END};
 
 /// The words of a job in the job table.
 pub const JOB_WORDS: usize = 6;

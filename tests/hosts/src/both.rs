@@ -2,6 +2,7 @@
 
 use reference::calls::{apply_with, Answer, Call, Tables};
 use reference::machine::all_pages;
+use reference::maps::AppNode;
 
 use crate::lent::LentTables;
 use crate::NUMBERS;
@@ -9,8 +10,10 @@ use crate::NUMBERS;
 /// The library's answer in the second implementation's words.
 fn in_reference_words(answer: spirerivet::Answer) -> Answer {
     match answer {
-        spirerivet::Answer::Granted { node, page } => Answer::Granted { node, page },
-        spirerivet::Answer::Released { node, page } => Answer::Released { node, page },
+        spirerivet::Answer::Granted { node, page } => Answer::Granted { node: AppNode(node.0), page },
+        spirerivet::Answer::Released { node, page } => {
+            Answer::Released { node: node.map(|node| AppNode(node.0)), page }
+        }
         spirerivet::Answer::Done => Answer::Done,
         spirerivet::Answer::Refused(refusal) => Answer::Refused(refusal.number()),
     }
@@ -18,27 +21,33 @@ fn in_reference_words(answer: spirerivet::Answer) -> Answer {
 
 /// One call by the library.
 pub fn library_call(nodes: usize, lent: &mut LentTables, call: &Call) -> Answer {
-    let LentTables { counts, cpus, distances, pages, jobs, free } = lent;
+    let LentTables { counts, cpus, distances, pages, jobs, free, maps } = lent;
     let (counts, cpus, distances) = (counts.now(), cpus.now(), distances.now());
-    let (pages, jobs, free) = (pages.now_mut(), jobs.now_mut(), free.now_mut());
+    let (pages, jobs, free, maps) = (pages.now_mut(), jobs.now_mut(), free.now_mut(), maps.now_mut());
     in_reference_words(match call {
-        Call::Request { job, cpu } => spirerivet::request(counts, cpus, distances, pages, jobs, free, *job, *cpu),
-        Call::Release { job, page } => spirerivet::release(counts, pages, jobs, free, *job, *page),
+        Call::Request { job, cpu } => spirerivet::request(counts, cpus, distances, pages, jobs, free, maps, *job, *cpu),
+        Call::Release { job, page } => spirerivet::release(counts, pages, jobs, free, maps, *job, *page),
         Call::Install { job, mode, flag, mask, places } => {
-            spirerivet::install(nodes, jobs, *job, *mode, *flag, *mask, places)
+            let places = spirerivet::AppNode::list(places);
+            spirerivet::install(nodes, jobs, maps, *job, *mode, *flag, *mask, places)
         }
         Call::Rebind { job, allowed } => spirerivet::rebind(nodes, jobs, *job, *allowed),
         Call::Clear { job } => spirerivet::clear(nodes, jobs, *job),
         Call::Fresh => spirerivet::fresh(counts, pages, free),
+        Call::KeepNodes { job, kept } => {
+            spirerivet::keep_nodes(nodes, jobs, maps, *job, spirerivet::AppNode::list(kept))
+        }
+        Call::SetMap { job, list } => spirerivet::set_map(nodes, jobs, maps, *job, spirerivet::SysNode::list(list)),
     })
 }
 
 /// A list of calls by the library's replay.
 pub fn library_replay(lent: &mut LentTables, list: &[u64], answers: &mut [u64]) -> Result<usize, u8> {
-    let LentTables { counts, cpus, distances, pages, jobs, free } = lent;
+    let LentTables { counts, cpus, distances, pages, jobs, free, maps } = lent;
     let (counts, cpus, distances) = (counts.now(), cpus.now(), distances.now());
-    let (pages, jobs, free) = (pages.now_mut(), jobs.now_mut(), free.now_mut());
-    spirerivet::replay(counts, cpus, distances, pages, jobs, free, list, answers).map_err(|refusal| refusal.number())
+    let (pages, jobs, free, maps) = (pages.now_mut(), jobs.now_mut(), free.now_mut(), maps.now_mut());
+    let ran = spirerivet::replay(counts, cpus, distances, pages, jobs, free, maps, list, answers);
+    ran.map_err(|refusal| refusal.number())
 }
 
 /// What calls showed, so that a test can say it was not empty.

@@ -2,7 +2,7 @@
 
 use reference::calls::{apply_without_counts, Answer, Call, Tables};
 use reference::generate::Counts;
-use reference::machine::{free_counts, free_fits};
+use reference::machine::{free_counts, free_fits, node_of_page};
 
 /// How often each came, so that a test can say it was not empty.
 #[derive(Clone, Copy, Debug, Default, PartialEq, Eq)]
@@ -34,8 +34,8 @@ impl Shown {
             (Call::Request { .. }, Answer::Refused(14)) => self.request_14 += 1,
             (Call::Release { .. }, Answer::Refused(14)) => self.release_14 += 1,
             (Call::Request { .. }, Answer::Refused(8)) => self.room_counted_0 += u64::from(without_counts() != answer),
-            (Call::Request { .. }, Answer::Granted { node, .. }) => {
-                let node = usize::from(node);
+            (Call::Request { .. }, Answer::Granted { page, .. }) => {
+                let node = node_of_page(counts, page as usize).expect("a page of the machine");
                 self.passed_over += u64::from(without_counts() != answer);
                 self.wrong_granted += u64::from(free[node] != free_counts(counts, pages)[node]);
             }

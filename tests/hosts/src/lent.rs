@@ -53,10 +53,12 @@ pub struct LentTables {
     pub pages: Lent<u8>,
     pub jobs: Lent<u64>,
     pub free: Lent<u32>,
+    pub maps: Lent<u8>,
 }
 
 impl LentTables {
-    /// The tables; marks are free pages, good nodes, fresh words and counts above 0, so that a read beside them shows too.
+    /// The tables; marks are free pages, good nodes, fresh words, counts above 0 and ends of maps, so that a read beside them
+    /// shows too.
     pub fn new(tables: &Tables) -> LentTables {
         LentTables {
             counts: Lent::new(&tables.counts, 1),
@@ -65,6 +67,7 @@ impl LentTables {
             pages: Lent::new(&tables.pages, 0),
             jobs: Lent::new(&tables.jobs, 0),
             free: Lent::new(&tables.free, 1),
+            maps: Lent::new(&tables.maps, 0xFF),
         }
     }
 
@@ -77,6 +80,7 @@ impl LentTables {
             ("pages", self.pages.is(&tables.pages)),
             ("jobs", self.jobs.is(&tables.jobs)),
             ("free counts", self.free.is(&tables.free)),
+            ("maps", self.maps.is(&tables.maps)),
         ];
         same.into_iter().find(|(_, same)| !same).map(|(name, _)| name)
     }

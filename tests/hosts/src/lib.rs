@@ -16,7 +16,7 @@ pub use both::{library_call, library_replay, Both, Seen};
 pub use counts::Shown;
 pub use journal::journal_by_both;
 pub use lent::{Lent, LentTables};
-pub use list::{answer_word, install_in, list_refusal, packed, words, RUBBISH};
+pub use list::{answer_word, install_in, list_refusal, map_call_in, packed, words, RUBBISH};
 pub use near::near_by_both;
 pub use text::{read_by_both, write_by_both};
 

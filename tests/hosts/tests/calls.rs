@@ -23,7 +23,7 @@ fn single_calls_on_tables_no_journal_reaches() {
     }
     println!("{seen:?}");
     assert!(seen.calls >= 20_000 && seen.granted > 500 && seen.released > 200 && seen.done > 500, "{seen:?}");
-    for number in [1, 2, 3, 4, 5, 6, 7, 8, 10, 14] {
+    for number in [1, 2, 3, 4, 5, 6, 7, 8, 10, 14, 15] {
         assert!(seen.refused[number] > 20, "refusal {number}: {seen:?}");
     }
 }

@@ -4,6 +4,7 @@ use hosts::seeds;
 use reference::calls::Tables;
 use reference::generate::Dice;
 use reference::machine::lowest_free_page;
+use reference::maps::identity_maps;
 use reference::record::{fresh, read, write, Record, EARLY, WORDS};
 use spirerivet::{Answer, Refusal};
 
@@ -15,8 +16,8 @@ fn start(dice: &mut Dice) -> Tables {
     let counts: Vec<u32> = (0..NODES).map(|_| dice.below(5) as u32).collect();
     let pages = (0..counts.iter().sum()).map(|_| dice.pick(&[0, 0, 0, 1, 2, 3, 200])).collect();
     let distances = (0..NODES * NODES).map(|at| if at / NODES == at % NODES { 10 } else { 20 }).collect();
-    let (cpus, free) = (vec![0], vec![0; NODES]);
-    let mut tables = Tables { counts, cpus, distances, pages, jobs: vec![0; JOBS * WORDS], free }.counted();
+    let (cpus, free, maps) = (vec![0], vec![0; NODES], identity_maps(NODES, JOBS));
+    let mut tables = Tables { counts, cpus, distances, pages, jobs: vec![0; JOBS * WORDS], free, maps }.counted();
     if dice.chance(30) {
         let node = dice.below(NODES);
         tables.free[node] = dice.below(5) as u32;
@@ -64,11 +65,11 @@ fn request(told: &str, tables: &mut Tables, book: &mut Book, job: usize, seen: &
     let asked = place(tables, &record, book.next);
     seen.told_apart += u64::from(asked != place(tables, &record, book.before));
     let kept = tables.clone();
-    let Tables { counts, cpus, distances, pages, jobs, free } = tables;
-    match spirerivet::request(counts, cpus, distances, pages, jobs, free, job, 0) {
+    let Tables { counts, cpus, distances, pages, jobs, free, maps } = tables;
+    match spirerivet::request(counts, cpus, distances, pages, jobs, free, maps, job, 0) {
         Answer::Granted { node, .. } => {
             let granted = asked.unwrap_or_else(|| panic!("{told}: granted though no place can grant"));
-            assert_eq!(node, record.places[granted], "{told}: the node of place {granted}");
+            assert_eq!(node.0, record.places[granted], "{told}: the node of place {granted}");
             assert_eq!(usize::from(read(jobs, job).cursor), granted + 1, "{told}: the cursor after place {granted}");
             book.next = granted + 1;
             if granted == 0 {
@@ -105,8 +106,8 @@ fn early_goes_on_from_where_it_stopped() {
             match tables.pages.get(page) {
                 Some(holder @ 1..=3) => {
                     let holder = usize::from(*holder) - 1;
-                    let Tables { counts, pages, jobs, free, .. } = &mut tables;
-                    spirerivet::release(counts, pages, jobs, free, holder, page);
+                    let Tables { counts, pages, jobs, free, maps, .. } = &mut tables;
+                    spirerivet::release(counts, pages, jobs, free, maps, holder, page);
                 }
                 _ => {
                     request(&format!("seed {seed} turn {turn} job {job}"), &mut tables, &mut books[job], job, &mut seen)

@@ -4,19 +4,20 @@ use hosts::{seeds, words};
 use reference::calls::{Call, Tables};
 use reference::fair::{add, check, check_with, Grant, Seen};
 use reference::generate::{journal_parts, list};
+use reference::machine::node_of_page;
 use reference::record::{read, RING};
 
 /// A request by a replay of that one call; in ring mode the record's cursor says which place was granted.
 fn ask_replay(tables: &mut Tables, job: usize, cpu: usize) -> Option<Grant> {
     let call = words(&Call::Request { job, cpu });
     let mut answers = [0];
-    let Tables { counts, cpus, distances, pages, jobs, free } = tables;
-    spirerivet::replay(counts, cpus, distances, pages, jobs, free, &call, &mut answers).ok()?;
+    let Tables { counts, cpus, distances, pages, jobs, free, maps } = tables;
+    spirerivet::replay(counts, cpus, distances, pages, jobs, free, maps, &call, &mut answers).ok()?;
     match spirerivet::answer_of(&spirerivet::Call::Request { job: 0, cpu: 0 }, answers[0]) {
-        spirerivet::Answer::Granted { node, page } => {
+        spirerivet::Answer::Granted { page, .. } => {
             let record = read(jobs, job);
             let place = if record.mode == RING { Some(usize::from(record.cursor) - 1) } else { None };
-            Some(Grant { node: usize::from(node), page: page as usize, place })
+            Some(Grant { node: node_of_page(counts, page as usize)?, page: page as usize, place })
         }
         _ => None,
     }

@@ -4,6 +4,7 @@ use hosts::{seeds, Both, Seen, Shown};
 use reference::calls::{apply_without_counts, Answer, Call, Tables};
 use reference::generate::{case, journal_parts, list, put_counts, tables, Case, Dice, SORTS_OF_COUNTS};
 use reference::machine::{all_pages, fresh_tables_fit};
+use reference::maps::identity_maps;
 use reference::record::{BIND, DEFAULT, EARLY, INTERLEAVE, LIST, RING, WORDS};
 
 /// Makes the calls by both; gives what they showed.
@@ -120,8 +121,8 @@ fn every_small_table() {
         let pages = vec![bytes[turn % 3], bytes[turn / 3 % 3], bytes[turn / 9 % 3]];
         let free = vec![numbers[turn / 27 % 5], numbers[turn / 135]];
         let small = |jobs: &[u64]| {
-            let (pages, jobs, free) = (pages.clone(), jobs.to_vec(), free.clone());
-            Tables { counts: vec![1, 2], cpus: vec![0], distances: vec![10, 20, 20, 10], pages, jobs, free }
+            let (pages, jobs, free, maps) = (pages.clone(), jobs.to_vec(), free.clone(), identity_maps(2, 1));
+            Tables { counts: vec![1, 2], cpus: vec![0], distances: vec![10, 20, 20, 10], pages, jobs, free, maps }
         };
         let told = format!("pages {pages:?} free {free:?}");
         for record in &records {

@@ -4,7 +4,7 @@ use std::time::{Duration, Instant};
 
 use reference::calls::{request, Answer, Tables};
 use reference::examples::machine_a;
-use spirerivet::{Order, Refusal};
+use spirerivet::{AppNode, Order, Refusal, SysNode};
 
 /// Zero bytes that nobody has touched: the system has not even made room for them.
 const HUGE: usize = 1 << 28;
@@ -16,6 +16,7 @@ const QUICKEST: Duration = Duration::from_millis(1);
 
 /// The answer of a call on tables that break the rules.
 const REFUSED: spirerivet::Answer = spirerivet::Answer::Refused(Refusal::BadTables);
+const BAD_MAP: spirerivet::Answer = spirerivet::Answer::Refused(Refusal::BadMap);
 
 /// Makes a call twenty times and asserts that it is done at once.
 fn at_once(told: &str, mut call: impl FnMut()) {
@@ -34,13 +35,13 @@ fn at_once(told: &str, mut call: impl FnMut()) {
 
 /// A request on these tables is refused 1 by both, at once, and changes nothing.
 fn request_refused(told: &str, tables: Tables) {
-    let Tables { counts, cpus, distances, mut pages, mut jobs, mut free } = tables;
+    let Tables { counts, cpus, distances, mut pages, mut jobs, mut free, maps } = tables;
     let pages_before = pages.clone();
     let jobs_before = jobs.clone();
-    let expected = request(&counts, &cpus, &distances, &mut pages, &mut jobs, &mut free, 0, 0);
+    let expected = request(&counts, &cpus, &distances, &mut pages, &mut jobs, &mut free, &maps, 0, 0);
     assert_eq!(expected, Answer::Refused(1), "{told}");
     at_once(told, || {
-        let found = spirerivet::request(&counts, &cpus, &distances, &mut pages, &mut jobs, &mut free, 0, 0);
+        let found = spirerivet::request(&counts, &cpus, &distances, &mut pages, &mut jobs, &mut free, &maps, 0, 0);
         assert_eq!(found, REFUSED, "{told}");
     });
     assert_eq!(pages, pages_before, "{told}");
@@ -60,12 +61,12 @@ fn other_huge_tables_are_refused_at_once() {
 
 #[test]
 fn a_huge_job_table_is_refused_at_once() {
-    let Tables { counts, cpus, distances, mut pages, mut free, .. } = machine_a();
+    let Tables { counts, cpus, distances, mut pages, mut free, maps, .. } = machine_a();
     let mut jobs = vec![0; HUGE / 48 * 6];
     at_once("job table", || {
-        let found = spirerivet::request(&counts, &cpus, &distances, &mut pages, &mut jobs, &mut free, 0, 0);
+        let found = spirerivet::request(&counts, &cpus, &distances, &mut pages, &mut jobs, &mut free, &maps, 0, 0);
         assert_eq!(found, REFUSED);
-        assert_eq!(spirerivet::release(&counts, &mut pages, &jobs, &mut free, 0, 0), REFUSED);
+        assert_eq!(spirerivet::release(&counts, &mut pages, &jobs, &mut free, &maps, 0, 0), REFUSED);
         assert_eq!(spirerivet::clear(4, &mut jobs, 0), REFUSED);
     });
     assert_eq!(pages, [0; 6]);
@@ -74,15 +75,16 @@ fn a_huge_job_table_is_refused_at_once() {
 
 #[test]
 fn huge_free_counts_are_refused_at_once() {
-    let Tables { counts, cpus, distances, mut pages, mut jobs, .. } = machine_a();
+    let Tables { counts, cpus, distances, mut pages, mut jobs, mut maps, .. } = machine_a();
     let mut free = vec![0; HUGE / 4];
     pages[0] = 1;
     at_once("free counts", || {
-        let found = spirerivet::request(&counts, &cpus, &distances, &mut pages, &mut jobs, &mut free, 0, 0);
+        let found = spirerivet::request(&counts, &cpus, &distances, &mut pages, &mut jobs, &mut free, &maps, 0, 0);
         assert_eq!(found, REFUSED);
-        assert_eq!(spirerivet::release(&counts, &mut pages, &jobs, &mut free, 0, 0), REFUSED);
+        assert_eq!(spirerivet::release(&counts, &mut pages, &jobs, &mut free, &maps, 0, 0), REFUSED);
         assert_eq!(spirerivet::fresh(&counts, &mut pages, &mut free), REFUSED);
-        let ran = spirerivet::replay(&counts, &cpus, &distances, &mut pages, &mut jobs, &mut free, &[], &mut []);
+        let (pages, jobs, free) = (&mut pages[..], &mut jobs[..], &mut free[..]);
+        let ran = spirerivet::replay(&counts, &cpus, &distances, pages, jobs, free, &mut maps, &[], &mut []);
         assert_eq!(ran, Err(Refusal::BadTables));
     });
     assert_eq!(pages, [1, 0, 0, 0, 0, 0]);
@@ -127,11 +129,36 @@ fn an_order_is_refused_and_listed_at_once() {
 #[test]
 fn huge_texts_and_lists_are_refused_at_once() {
     let bytes = vec![0; HUGE];
-    let mut jobs = machine_a().jobs;
-    at_once("text and places", || {
+    let Tables { mut jobs, mut maps, .. } = machine_a();
+    at_once("text, places and nodes", || {
         assert_eq!(spirerivet::read_nodes(64, 0, &bytes), Err(Refusal::BadText));
-        let found = spirerivet::install(4, &mut jobs, 0, spirerivet::mode::RING, 0, 0, &bytes);
+        let places = AppNode::list(&bytes);
+        let found = spirerivet::install(4, &mut jobs, &maps, 0, spirerivet::mode::RING, 0, 0, places);
         assert_eq!(found, spirerivet::Answer::Refused(Refusal::DoesNotFit));
+        assert_eq!(spirerivet::keep_nodes(4, &jobs, &mut maps, 0, places), BAD_MAP);
+        assert_eq!(spirerivet::set_map(4, &jobs, &mut maps, 0, SysNode::list(&bytes)), BAD_MAP);
     });
+    assert_eq!((jobs, maps), (machine_a().jobs, machine_a().maps));
+}
+
+/// Maps far too long, for every call that is lent them.
+#[test]
+fn huge_maps_are_refused_at_once() {
+    let Tables { counts, cpus, distances, mut pages, mut jobs, mut free, .. } = machine_a();
+    let mut maps = vec![0; HUGE];
+    pages[0] = 1;
+    at_once("maps", || {
+        let found = spirerivet::request(&counts, &cpus, &distances, &mut pages, &mut jobs, &mut free, &maps, 0, 0);
+        assert_eq!(found, REFUSED);
+        assert_eq!(spirerivet::release(&counts, &mut pages, &jobs, &mut free, &maps, 0, 0), REFUSED);
+        assert_eq!(spirerivet::install(4, &mut jobs, &maps, 0, 0, 0, 0, &[]), REFUSED);
+        assert_eq!(spirerivet::keep_nodes(4, &jobs, &mut maps, 0, &[AppNode(0)]), REFUSED);
+        assert_eq!(spirerivet::set_map(4, &jobs, &mut maps, 0, &[SysNode(0)]), REFUSED);
+        let (pages, jobs, free) = (&mut pages[..], &mut jobs[..], &mut free[..]);
+        let ran = spirerivet::replay(&counts, &cpus, &distances, pages, jobs, free, &mut maps, &[], &mut []);
+        assert_eq!(ran, Err(Refusal::BadTables));
+    });
+    assert_eq!(pages, [1, 0, 0, 0, 0, 0]);
     assert_eq!(jobs, machine_a().jobs);
+    assert!(maps.iter().all(|byte| *byte == 0));
 }

@@ -121,9 +121,10 @@ fn requests_go_by_the_order() {
         let Ok((order, _)) = near_by_both("order", &NearCase { room: 64, ..case }) else { continue };
         let (counts, cpus, mut jobs) = (vec![1; nodes], [x as u8], [0, 0, set, 0, 0, 0]);
         let (mut pages, mut free, mut served) = (vec![0; nodes], counts.clone(), Vec::new());
+        let maps = spirerivet::identity_maps(nodes, 1);
         let last = loop {
-            match spirerivet::request(&counts, &cpus, &distances, &mut pages, &mut jobs, &mut free, 0, 0) {
-                Answer::Granted { node, .. } => served.push(node),
+            match spirerivet::request(&counts, &cpus, &distances, &mut pages, &mut jobs, &mut free, &maps, 0, 0) {
+                Answer::Granted { node, .. } => served.push(node.0),
                 other => break other,
             }
         };

@@ -1,13 +1,15 @@
 //! `replay` against the second implementation's calls one by one.
 
 use hosts::{
-    answer_word, install_in, library_replay, list_refusal, packed, seeds, Lent, LentTables, Shown, NUMBERS, RUBBISH,
+    answer_word, install_in, library_replay, list_refusal, map_call_in, packed, seeds, Lent, LentTables, Shown,
+    NUMBERS, RUBBISH,
 };
 use reference::calls::{apply, apply_without_counts, Answer, Call, Tables};
 use reference::examples::machine_a;
 use reference::generate::{journal_parts, list, put_counts, tables, Counts, Dice, SORTS_OF_COUNTS};
+use reference::map_cases::{good_keep, good_set, put_map, SORTS};
 
-/// Numbers of places over 16: the next one, those about 64, and such as are small when cut or shifted.
+/// Numbers of places over 16, and of nodes: the next one, those about 64, and such as are small when cut or shifted.
 const LONG: [u64; 16] =
     [17, 63, 64, 65, 66, 255, 256, 257, 320, 65_537, 1 << 32, 1 << 32 | 1, 1 << 61 | 1, 1 << 63, 1 << 63 | 1, u64::MAX];
 
@@ -153,19 +155,19 @@ fn kind_16_is_a_fresh_table_and_reads_no_other_word() {
     for kind in (0..=300).chain(like_16) {
         let mut words = [0; 16];
         words[0] = kind;
-        let known = (1..=5).contains(&kind) || kind == 16;
+        let known = (1..=5).contains(&kind) || (16..=18).contains(&kind);
         assert_eq!(list_refusal(&start, &words, 1), if known { None } else { Some(13) }, "kind {kind}");
         assert_eq!(run(&start, &words, 1).outcome, if known { Ok(1) } else { Err(13) }, "kind {kind}");
     }
 }
 
-/// Damages a list in one way, or makes a call of it an install that says too many places, which is no damage; gives the
+/// Damages a list in one way, or makes a call of it one that says too many places or nodes, which is no damage; gives the
 /// answer cells to lend.
 fn damage(dice: &mut Dice, words: &mut Vec<u64>, calls: &mut [Call]) -> usize {
     let turn = dice.below(calls.len());
     let at = 16 * turn;
-    match dice.below(7) {
-        0 => words[at] = dice.pick(&[0, 6, 7, 15, 17, 255, 256, 257, 272, 1 << 32, 1 << 32 | 16, u64::MAX]),
+    match dice.below(8) {
+        0 => words[at] = dice.pick(&[0, 6, 7, 15, 19, 255, 256, 257, 272, 1 << 32, 1 << 32 | 17, u64::MAX]),
         1 => {
             words[at] = 4;
             words[at + 5] = dice.pick(&LONG);
@@ -184,6 +186,11 @@ fn damage(dice: &mut Dice, words: &mut Vec<u64>, calls: &mut [Call]) -> usize {
         }
         4 => return dice.below(calls.len()),
         5 => return 0,
+        6 => {
+            words[at] = dice.pick(&[17, 18]);
+            words[at + 5] = dice.pick(&LONG);
+            calls[turn] = map_call_in(&words[at..at + 16]);
+        }
         _ => {}
     }
     if dice.chance(30) {
@@ -301,6 +308,73 @@ fn any_number_of_places_leaves_the_refusals_of_a_list() {
         assert_eq!(list_refusal(&start, &words, 0), Some(13));
         check("an unknown kind after them", &start, &words, &calls, 0);
     }
+}
+
+/// Machine A with 64 nodes of a page each, all at distance 10, and two jobs allowed all.
+fn sixty_four_nodes() -> Tables {
+    let mut tables = Tables { counts: vec![1; 64], cpus: vec![0], pages: vec![0; 64], ..machine_a() };
+    tables.distances = vec![10; 64 * 64];
+    tables.jobs = [0, 0, u64::MAX, 0, 0, 0].repeat(2);
+    tables.counted().numbered_as_the_machine()
+}
+
+/// Kinds 17 and 18: "any length may be said; entries past the 64th are zero bytes, so a longer list gets the call's own
+/// refusal", 15, and never 13.
+#[test]
+fn any_number_of_nodes_is_answered_as_by_the_calls() {
+    let start = sixty_four_nodes();
+    let all: Vec<u8> = (0..64).collect();
+    let backward: Vec<u8> = (0..64).rev().collect();
+    for (kind, nodes) in [(17, &all), (18, &all), (18, &backward), (17, &backward)] {
+        for length in (0..=66).chain(LONG) {
+            let mut words = [RUBBISH; 16];
+            (words[0], words[1], words[5]) = (kind, 1, length);
+            for (word, eight) in words[8..].iter_mut().zip(nodes.chunks(8)) {
+                *word = eight.iter().rev().fold(0, |word, node| word << 8 | u64::from(*node));
+            }
+            let told = format!("kind {kind}, {length} nodes");
+            let calls = [map_call_in(&words), Call::Request { job: 1, cpu: 0 }];
+            let list = [words.to_vec(), packed(&mut Dice::new(length), &calls[1..])].concat();
+            assert_eq!(check(&told, &start, &list, &calls, 2), 2);
+            let answer = run(&start, &list, 2).answers.now()[0] as u8;
+            let good = (1..=64).contains(&length) && (kind == 18 || nodes == &all || length == 1 && nodes[0] < 64);
+            assert_eq!(answer, if good { 0 } else { 15 }, "{told}");
+        }
+    }
+    let mut none = [0; 16];
+    (none[0], none[1], none[5]) = (18, 2, u64::MAX);
+    assert_eq!(check("no such job", &start, &none, &[map_call_in(&none)], 1), 1);
+    assert_eq!(run(&start, &none, 1).answers.now()[0] as u8, 2);
+}
+
+/// What a replay does with maps of every sort, kinds 17 and 18 among its calls, is what its calls do one by one.
+#[test]
+fn replays_on_maps_of_every_sort() {
+    let (mut kept, mut set, mut refused) = (0, 0, 0);
+    for sort in SORTS {
+        for seed in seeds(60) {
+            let mut dice = Dice::new(seed ^ 0x3A9);
+            let (mut start, mut calls) = list(seed, 40);
+            for job in 0..start.jobs.len() / 6 {
+                put_map(&mut dice, &mut start, job, sort);
+                calls.insert(dice.below(calls.len()), good_keep(&mut dice, job, 1));
+                calls.insert(dice.below(calls.len()), good_set(&mut dice, start.counts.len(), job));
+            }
+            let words = packed(&mut dice, &calls);
+            assert_eq!(check(&format!("{sort:?} seed {seed}"), &start, &words, &calls, calls.len()), calls.len());
+            let mut tables = start.clone();
+            for call in &calls {
+                match (call, apply(&mut tables, call)) {
+                    (Call::KeepNodes { .. }, Answer::Done) => kept += 1,
+                    (Call::SetMap { .. }, Answer::Done) => set += 1,
+                    (_, Answer::Refused(15)) => refused += 1,
+                    _ => {}
+                }
+            }
+        }
+    }
+    println!("{kept} kept nodes, {set} set maps, {refused} refused 15");
+    assert!(kept > 300 && set > 1_000 && refused > 1_000, "{kept} {set} {refused}");
 }
 
 #[test]

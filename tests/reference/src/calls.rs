@@ -1,21 +1,26 @@
-//! The calls on lent tables: request, release, install, rebind, clear, and M-100's fresh table.
+//! The calls on lent tables: request, release, install, rebind, clear, M-100's fresh table, and M-103's two of maps.
 
 use crate::machine::{
     all_pages, byte_of_job, free_counts, free_fits, fresh_tables_fit, lowest_free_page, node_of_page,
     policy_tables_fit, release_tables_fit, request_tables_fit, FREE,
 };
+use crate::maps::{
+    application_node, identity_maps, is_good, is_good_list, kept_entries, map_of, maps_fit, nodes_in, system_mask,
+    system_places, write_map, AppNode,
+};
 use crate::masks::{folded, lies_below, remapped};
-use crate::order::{cursor_after_grant, search_order, Map, Try};
+use crate::order::{cursor_after_grant, search_order, Machine, Try};
 use crate::record::{
     self, has_a_list, has_a_mask, read, well_formed, write, Record, BIND, DEFAULT, EARLY, INTERLEAVE, MOST_PLACES,
     NO_FLAG, PREFERRED, RELATIVE, STATIC, WORDS,
 };
 
-/// What a call gives: its answer or one numbered refusal (Refusal numbers).
+/// What a call gives: its answer or one numbered refusal (Refusal numbers). A node is answered by the job's own number;
+/// "A released page outside the map answers node FF", which is none here (M-103).
 #[derive(Clone, Copy, Debug, PartialEq, Eq)]
 pub enum Answer {
-    Granted { node: u8, page: u32 },
-    Released { node: u8, page: u32 },
+    Granted { node: AppNode, page: u32 },
+    Released { node: Option<AppNode>, page: u32 },
     Done,
     Refused(u8),
 }
@@ -45,65 +50,143 @@ fn first_counted(free: &[u32], order: &[Try]) -> Option<Try> {
     None
 }
 
-/// A request's refusals 1, 2, 3, 4, in this order; else the job's record and its search order (Refusal numbers).
-fn record_and_order(
+/// The number that a job is told for a system node; before M-103 it was the node's own.
+fn told_number(map: Option<&[u8]>, node: usize) -> Option<AppNode> {
+    match map {
+        Some(map) => application_node(map, node),
+        None => Some(AppNode(node as u8)),
+    }
+}
+
+/// What a request goes by: the job's record, its search order and its map.
+struct Asked<'a> {
+    record: Record,
+    order: Vec<Try>,
+    map: Option<&'a [u8]>,
+}
+
+/// A request's refusals 1, 2, 15, 3, 4, in this order; else what it goes by (Refusal numbers, M-103). Without maps there is
+/// no 15, and the allowed set alone is the limit: so it was before M-103.
+fn record_and_order<'a>(
+    machine: Machine,
     counts: &[u32],
-    cpus: &[u8],
-    distances: &[u8],
     pages: &[u8],
     jobs: &[u64],
+    maps: Option<&'a [u8]>,
     job: usize,
     cpu: usize,
-) -> Result<(Record, Vec<Try>), u8> {
-    if !request_tables_fit(counts, cpus, distances, pages, jobs) {
+) -> Result<Asked<'a>, u8> {
+    if !request_tables_fit(counts, machine.cpus, machine.distances, pages, jobs) {
+        return Err(1);
+    }
+    if maps.is_some_and(|maps| !maps_fit(jobs, maps)) {
         return Err(1);
     }
     if no_such_job(jobs, job) {
         return Err(2);
     }
-    if cpu >= cpus.len() {
+    let map = maps.map(|maps| map_of(maps, job));
+    if map.is_some_and(|map| !is_good(counts.len(), map)) {
+        return Err(15);
+    }
+    if cpu >= machine.cpus.len() {
         return Err(3);
     }
     let record = read(jobs, job);
     if !well_formed(counts.len(), &record) {
         return Err(4);
     }
-    let map = Map { nodes: counts.len(), cpus, distances };
-    Ok((record, search_order(map, &record, cpu)))
+    let limit = match map {
+        Some(map) => record.allowed & nodes_in(map),
+        None => record.allowed,
+    };
+    Ok(Asked { record, order: search_order(machine, &record, limit, cpu), map })
 }
 
 /// Marks the page as the job's and moves the cursor (Search order, last paragraph; The machine for the page byte).
-fn grant(pages: &mut [u8], jobs: &mut [u64], job: usize, mut record: Record, granted: Try, page: usize) -> Answer {
+fn grant(pages: &mut [u8], jobs: &mut [u64], job: usize, asked: &Asked, granted: Try, page: usize) -> Answer {
+    let mut record = asked.record;
     record.cursor = cursor_after_grant(&record, granted);
     write(jobs, job, &record);
     pages[page] = byte_of_job(job);
-    Answer::Granted { node: granted.node as u8, page: page as u32 }
+    let node = told_number(asked.map, granted.node).expect("the order has no node outside the map");
+    Answer::Granted { node, page: page as u32 }
 }
 
-/// Request as 01 has it, without free counts: refusals in the order 1, 2, 3, 4, 8 (Refusal numbers, Search order).
+/// Request without free counts, as it was before M-100: refusals in the order 1, 2, 15, 3, 4, 8 (Refusal numbers, M-103).
 pub fn request_without_counts(
     counts: &[u32],
     cpus: &[u8],
     distances: &[u8],
     pages: &mut [u8],
     jobs: &mut [u64],
+    maps: &[u8],
     job: usize,
     cpu: usize,
 ) -> Answer {
-    let (record, order) = match record_and_order(counts, cpus, distances, pages, jobs, job, cpu) {
-        Ok(found) => found,
+    let machine = Machine { nodes: counts.len(), cpus, distances };
+    let asked = match record_and_order(machine, counts, pages, jobs, Some(maps), job, cpu) {
+        Ok(asked) => asked,
         Err(number) => return Answer::Refused(number),
     };
-    match first_with_room(counts, pages, &order) {
+    match first_with_room(counts, pages, &asked.order) {
         None => Answer::Refused(8),
-        Some((granted, page)) => grant(pages, jobs, job, record, granted, page),
+        Some((granted, page)) => grant(pages, jobs, job, &asked, granted, page),
     }
 }
 
-/// Request: refusals in the order 1, 2, 3, 4, 14, 8 (Refusal numbers, M-100).
+/// Request with maps or, as it was before M-103, without them.
+fn request_with(
+    counts: &[u32],
+    cpus: &[u8],
+    distances: &[u8],
+    pages: &mut [u8],
+    jobs: &mut [u64],
+    free: &mut [u32],
+    maps: Option<&[u8]>,
+    job: usize,
+    cpu: usize,
+) -> Answer {
+    if !free_fits(counts, free) {
+        return Answer::Refused(1);
+    }
+    let machine = Machine { nodes: counts.len(), cpus, distances };
+    let asked = match record_and_order(machine, counts, pages, jobs, maps, job, cpu) {
+        Ok(asked) => asked,
+        Err(number) => return Answer::Refused(number),
+    };
+    let Some(counted) = first_counted(free, &asked.order) else {
+        return Answer::Refused(8);
+    };
+    match lowest_free_page(counts, pages, counted.node) {
+        None => Answer::Refused(14),
+        Some(page) => {
+            free[counted.node] -= 1;
+            grant(pages, jobs, job, &asked, counted, page)
+        }
+    }
+}
+
+/// Request: refusals in the order 1, 2, 15, 3, 4, 14, 8 (Refusal numbers, M-100, M-103).
 ///
 /// 14: "before it finds a page, meets a node counted above 0 with no free page". 8: "every node in the order counted 0".
+/// 15: "An empty map, or one with a repeated or unknown node or a node after an FF".
 pub fn request(
+    counts: &[u32],
+    cpus: &[u8],
+    distances: &[u8],
+    pages: &mut [u8],
+    jobs: &mut [u64],
+    free: &mut [u32],
+    maps: &[u8],
+    job: usize,
+    cpu: usize,
+) -> Answer {
+    request_with(counts, cpus, distances, pages, jobs, free, Some(maps), job, cpu)
+}
+
+/// Request as it was before M-103: refusals in the order 1, 2, 3, 4, 14, 8; nodes by the machine's own numbers.
+pub fn request_without_maps(
     counts: &[u32],
     cpus: &[u8],
     distances: &[u8],
@@ -113,68 +196,107 @@ pub fn request(
     job: usize,
     cpu: usize,
 ) -> Answer {
-    if !free_fits(counts, free) {
-        return Answer::Refused(1);
-    }
-    let (record, order) = match record_and_order(counts, cpus, distances, pages, jobs, job, cpu) {
-        Ok(found) => found,
-        Err(number) => return Answer::Refused(number),
-    };
-    let Some(counted) = first_counted(free, &order) else {
-        return Answer::Refused(8);
-    };
-    match lowest_free_page(counts, pages, counted.node) {
-        None => Answer::Refused(14),
-        Some(page) => {
-            free[counted.node] -= 1;
-            grant(pages, jobs, job, record, counted, page)
-        }
-    }
+    request_with(counts, cpus, distances, pages, jobs, free, None, job, cpu)
 }
 
-/// A release's refusals 1, 2, 10, in this order; else the node of the page (Refusal numbers; The machine for the page byte).
-fn node_of_held_page(counts: &[u32], pages: &[u8], jobs: &[u64], job: usize, page: usize) -> Result<usize, u8> {
+/// A release's refusals 1, 2, 15, 10, in this order; else the node of the page and the number that the job is told for it
+/// (Refusal numbers, M-103; The machine for the page byte). Without maps as before M-103.
+fn node_of_held_page(
+    counts: &[u32],
+    pages: &[u8],
+    jobs: &[u64],
+    maps: Option<&[u8]>,
+    job: usize,
+    page: usize,
+) -> Result<(usize, Option<AppNode>), u8> {
     if !release_tables_fit(counts, pages, jobs) {
+        return Err(1);
+    }
+    if maps.is_some_and(|maps| !maps_fit(jobs, maps)) {
         return Err(1);
     }
     if no_such_job(jobs, job) {
         return Err(2);
     }
+    let map = maps.map(|maps| map_of(maps, job));
+    if map.is_some_and(|map| !is_good(counts.len(), map)) {
+        return Err(15);
+    }
     match node_of_page(counts, page) {
-        Some(node) if pages[page] == byte_of_job(job) => Ok(node),
+        Some(node) if pages[page] == byte_of_job(job) => Ok((node, told_number(map, node))),
         _ => Err(10),
     }
 }
 
-/// Release as 01 has it, without free counts: refusals in the order 1, 2, 10 (Refusal numbers).
-pub fn release_without_counts(counts: &[u32], pages: &mut [u8], jobs: &[u64], job: usize, page: usize) -> Answer {
-    match node_of_held_page(counts, pages, jobs, job, page) {
+/// Release without free counts, as it was before M-100: refusals in the order 1, 2, 15, 10 (Refusal numbers, M-103).
+pub fn release_without_counts(
+    counts: &[u32],
+    pages: &mut [u8],
+    jobs: &[u64],
+    maps: &[u8],
+    job: usize,
+    page: usize,
+) -> Answer {
+    match node_of_held_page(counts, pages, jobs, Some(maps), job, page) {
         Err(number) => Answer::Refused(number),
-        Ok(node) => {
+        Ok((_, told)) => {
             pages[page] = FREE;
-            Answer::Released { node: node as u8, page: page as u32 }
+            Answer::Released { node: told, page: page as u32 }
         }
     }
 }
 
-/// Release: refusals in the order 1, 2, 10, 14 (Refusal numbers, M-100).
-///
-/// 14: "a release that would take a count above the node's pages"; "In a release 14 stands last".
-pub fn release(counts: &[u32], pages: &mut [u8], jobs: &[u64], free: &mut [u32], job: usize, page: usize) -> Answer {
+/// Release with maps or, as it was before M-103, without them.
+fn release_with(
+    counts: &[u32],
+    pages: &mut [u8],
+    jobs: &[u64],
+    free: &mut [u32],
+    maps: Option<&[u8]>,
+    job: usize,
+    page: usize,
+) -> Answer {
     if !free_fits(counts, free) {
         return Answer::Refused(1);
     }
-    match node_of_held_page(counts, pages, jobs, job, page) {
+    match node_of_held_page(counts, pages, jobs, maps, job, page) {
         Err(number) => Answer::Refused(number),
-        Ok(node) => {
+        Ok((node, told)) => {
             if u64::from(free[node]) + 1 > u64::from(counts[node]) {
                 return Answer::Refused(14);
             }
             pages[page] = FREE;
             free[node] += 1;
-            Answer::Released { node: node as u8, page: page as u32 }
+            Answer::Released { node: told, page: page as u32 }
         }
     }
+}
+
+/// Release: refusals in the order 1, 2, 15, 10, 14 (Refusal numbers, M-100, M-103).
+///
+/// 14: "a release that would take a count above the node's pages"; "In a release 14 stands last".
+pub fn release(
+    counts: &[u32],
+    pages: &mut [u8],
+    jobs: &[u64],
+    free: &mut [u32],
+    maps: &[u8],
+    job: usize,
+    page: usize,
+) -> Answer {
+    release_with(counts, pages, jobs, free, Some(maps), job, page)
+}
+
+/// Release as it was before M-103: refusals in the order 1, 2, 10, 14; the node by the machine's own number.
+pub fn release_without_maps(
+    counts: &[u32],
+    pages: &mut [u8],
+    jobs: &[u64],
+    free: &mut [u32],
+    job: usize,
+    page: usize,
+) -> Answer {
+    release_with(counts, pages, jobs, free, None, job, page)
 }
 
 /// "A fresh table and its counts are made by one call: it frees every page of the machine, can be refused only 1" (M-100).
@@ -207,7 +329,7 @@ fn refused_5(mode: u64, flag: u64, mask: u64) -> bool {
     mode == u64::from(PREFERRED) && mask == 0
 }
 
-/// Refusal 6 at install: the mask or list does not fit (Refusal numbers, last paragraph).
+/// Refusal 6 at install: the mask or list does not fit (Refusal numbers, last paragraph); all in system nodes.
 fn refused_6_at_install(nodes: usize, allowed: u64, mode: u8, flag: u8, mask: u64, places: &[u8]) -> bool {
     if (mode == BIND || mode == INTERLEAVE) && mask == 0 {
         return true;
@@ -228,6 +350,13 @@ fn refused_6_at_install(nodes: usize, allowed: u64, mode: u8, flag: u8, mask: u6
     } else {
         !places.is_empty()
     }
+}
+
+/// "User masks and places are turned into system nodes at install"; "a relative mask doesn't, being ranks already"; "an
+/// application number past the map's end is 6", which is none here (M-103).
+fn turned(map: &[u8], flag: u8, mask: u64, places: &[u8]) -> Option<(u64, Vec<u8>)> {
+    let mask = if flag == RELATIVE { mask } else { system_mask(map, mask)? };
+    Some((mask, system_places(map, places)?))
 }
 
 /// "Effective: user and allowed (flags 0, 1) or folded (2)" (Masks, install).
@@ -254,29 +383,93 @@ fn installed(allowed: u64, mode: u8, flag: u8, mask: u64, places: &[u8]) -> Reco
     record
 }
 
-/// Install: refusals in the order 1, 2, 4, 5, 7, 6 (Refusal numbers, Masks).
-pub fn install(nodes: usize, jobs: &mut [u64], job: usize, mode: u64, flag: u64, mask: u64, places: &[u8]) -> Answer {
-    if !policy_tables_fit(nodes, jobs) {
-        return Answer::Refused(1);
+/// An install's refusals 1, 2, 15, 4, 5, 7, in this order; else the allowed set, and the map (Refusal numbers, M-103). Without
+/// maps as before M-103.
+fn allowed_at_install<'a>(
+    nodes: usize,
+    jobs: &[u64],
+    maps: Option<&'a [u8]>,
+    job: usize,
+    policy: (u64, u64, u64),
+) -> Result<(u64, Option<&'a [u8]>), u8> {
+    if !policy_tables_fit(nodes, jobs) || maps.is_some_and(|maps| !maps_fit(jobs, maps)) {
+        return Err(1);
     }
     if no_such_job(jobs, job) {
-        return Answer::Refused(2);
+        return Err(2);
+    }
+    let map = maps.map(|maps| map_of(maps, job));
+    if map.is_some_and(|map| !is_good(nodes, map)) {
+        return Err(15);
     }
     let old = read(jobs, job);
     if !well_formed(nodes, &old) {
-        return Answer::Refused(4);
+        return Err(4);
     }
+    let (mode, flag, mask) = policy;
     if refused_5(mode, flag, mask) {
-        return Answer::Refused(5);
+        return Err(5);
     }
     if old.allowed == 0 {
-        return Answer::Refused(7);
+        return Err(7);
     }
-    if refused_6_at_install(nodes, old.allowed, mode as u8, flag as u8, mask, places) {
-        return Answer::Refused(6);
+    Ok((old.allowed, map))
+}
+
+/// Install with maps or, as it was before M-103, without them.
+fn install_with(
+    nodes: usize,
+    jobs: &mut [u64],
+    maps: Option<&[u8]>,
+    job: usize,
+    mode: u64,
+    flag: u64,
+    mask: u64,
+    places: &[u8],
+) -> Answer {
+    let (allowed, map) = match allowed_at_install(nodes, jobs, maps, job, (mode, flag, mask)) {
+        Ok(found) => found,
+        Err(number) => return Answer::Refused(number),
+    };
+    let (mode, flag) = (mode as u8, flag as u8);
+    let in_system_nodes = match map {
+        Some(map) => turned(map, flag, mask, places),
+        None => Some((mask, places.to_vec())),
+    };
+    match in_system_nodes {
+        Some((mask, places)) if !refused_6_at_install(nodes, allowed, mode, flag, mask, &places) => {
+            write(jobs, job, &installed(allowed, mode, flag, mask, &places));
+            Answer::Done
+        }
+        _ => Answer::Refused(6),
     }
-    write(jobs, job, &installed(old.allowed, mode as u8, flag as u8, mask, places));
-    Answer::Done
+}
+
+/// Install: refusals in the order 1, 2, 15, 4, 5, 7, 6 (Refusal numbers, Masks, M-103).
+pub fn install(
+    nodes: usize,
+    jobs: &mut [u64],
+    maps: &[u8],
+    job: usize,
+    mode: u64,
+    flag: u64,
+    mask: u64,
+    places: &[u8],
+) -> Answer {
+    install_with(nodes, jobs, Some(maps), job, mode, flag, mask, places)
+}
+
+/// Install as it was before M-103: refusals in the order 1, 2, 4, 5, 7, 6; masks and places by the machine's own numbers.
+pub fn install_without_maps(
+    nodes: usize,
+    jobs: &mut [u64],
+    job: usize,
+    mode: u64,
+    flag: u64,
+    mask: u64,
+    places: &[u8],
+) -> Answer {
+    install_with(nodes, jobs, None, job, mode, flag, mask, places)
 }
 
 /// "flag 0 remaps the effective mask, static takes user and allowed, relative folds afresh" (Masks, rebind).
@@ -334,7 +527,48 @@ pub fn clear(nodes: usize, jobs: &mut [u64], job: usize) -> Answer {
     Answer::Done
 }
 
-/// All lent tables together (The machine, A job's record, M-100).
+/// A map call's refusals 1 and 2 (M-103): "Both test 1, 2, 15". Neither looks at the job's record.
+fn refused_1_or_2(nodes: usize, jobs: &[u64], maps: &[u8], job: usize) -> Option<u8> {
+    if !policy_tables_fit(nodes, jobs) || !maps_fit(jobs, maps) {
+        return Some(1);
+    }
+    if no_such_job(jobs, job) {
+        return Some(2);
+    }
+    None
+}
+
+/// The tenant's call: "it lists the application nodes it keeps of a good map, one or more, rising, else 15" (M-103).
+pub fn keep_nodes(nodes: usize, jobs: &[u64], maps: &mut [u8], job: usize, kept: &[u8]) -> Answer {
+    if let Some(number) = refused_1_or_2(nodes, jobs, maps, job) {
+        return Answer::Refused(number);
+    }
+    let map = map_of(maps, job);
+    if !is_good(nodes, map) {
+        return Answer::Refused(15);
+    }
+    match kept_entries(map, kept) {
+        None => Answer::Refused(15),
+        Some(list) => {
+            write_map(maps, job, &list);
+            Answer::Done
+        }
+    }
+}
+
+/// The administrator's call: it "sets any good list of system nodes, else 15" (M-103), whatever the map was.
+pub fn set_map(nodes: usize, jobs: &[u64], maps: &mut [u8], job: usize, list: &[u8]) -> Answer {
+    if let Some(number) = refused_1_or_2(nodes, jobs, maps, job) {
+        return Answer::Refused(number);
+    }
+    if !is_good_list(nodes, list) {
+        return Answer::Refused(15);
+    }
+    write_map(maps, job, list);
+    Answer::Done
+}
+
+/// All lent tables together (The machine, A job's record, M-100, M-103).
 #[derive(Clone, Debug, PartialEq, Eq)]
 pub struct Tables {
     pub counts: Vec<u32>,
@@ -343,6 +577,7 @@ pub struct Tables {
     pub pages: Vec<u8>,
     pub jobs: Vec<u64>,
     pub free: Vec<u32>,
+    pub maps: Vec<u8>,
 }
 
 impl Tables {
@@ -355,10 +590,15 @@ impl Tables {
     pub fn counted(self) -> Tables {
         Tables { free: free_counts(&self.counts, &self.pages), ..self }
     }
+
+    /// The same tables with "map 0 to N-1" for each job (M-103).
+    pub fn numbered_as_the_machine(self) -> Tables {
+        Tables { maps: identity_maps(self.counts.len(), self.jobs.len() / WORDS), ..self }
+    }
 }
 
 /// "The calls are request, release, install, rebind and clear; a later call that changes pages, records or limits joins
-/// them" (The lists of demand 3): M-100's fresh table.
+/// them" (The lists of demand 3): M-100's fresh table, M-103's two of maps.
 #[derive(Clone, Debug, PartialEq, Eq)]
 pub enum Call {
     Request { job: usize, cpu: usize },
@@ -367,35 +607,58 @@ pub enum Call {
     Rebind { job: usize, allowed: u64 },
     Clear { job: usize },
     Fresh,
+    KeepNodes { job: usize, kept: Vec<u8> },
+    SetMap { job: usize, list: Vec<u8> },
 }
 
-/// Makes one call on the tables, N given apart for install, rebind and clear (Refusal numbers).
+impl Call {
+    /// Is it one of M-103's, which no journal has and no host had before?
+    pub fn is_of_maps(&self) -> bool {
+        matches!(self, Call::KeepNodes { .. } | Call::SetMap { .. })
+    }
+}
+
+/// Makes one call on the tables, N given apart for the calls that are lent it alone (Refusal numbers).
 pub fn apply_with(nodes: usize, tables: &mut Tables, call: &Call) -> Answer {
+    let Tables { counts, cpus, distances, pages, jobs, free, maps } = tables;
     match call {
-        Call::Request { job, cpu } => {
-            let Tables { counts, cpus, distances, pages, jobs, free } = tables;
-            request(counts, cpus, distances, pages, jobs, free, *job, *cpu)
-        }
-        Call::Release { job, page } => {
-            release(&tables.counts, &mut tables.pages, &tables.jobs, &mut tables.free, *job, *page)
-        }
+        Call::Request { job, cpu } => request(counts, cpus, distances, pages, jobs, free, maps, *job, *cpu),
+        Call::Release { job, page } => release(counts, pages, jobs, free, maps, *job, *page),
         Call::Install { job, mode, flag, mask, places } => {
-            install(nodes, &mut tables.jobs, *job, *mode, *flag, *mask, places)
+            install(nodes, jobs, maps, *job, *mode, *flag, *mask, places)
         }
-        Call::Rebind { job, allowed } => rebind(nodes, &mut tables.jobs, *job, *allowed),
-        Call::Clear { job } => clear(nodes, &mut tables.jobs, *job),
-        Call::Fresh => fresh(&tables.counts, &mut tables.pages, &mut tables.free),
+        Call::Rebind { job, allowed } => rebind(nodes, jobs, *job, *allowed),
+        Call::Clear { job } => clear(nodes, jobs, *job),
+        Call::Fresh => fresh(counts, pages, free),
+        Call::KeepNodes { job, kept } => keep_nodes(nodes, jobs, maps, *job, kept),
+        Call::SetMap { job, list } => set_map(nodes, jobs, maps, *job, list),
     }
 }
 
 /// Makes one call as it was "before" M-100: the free counts are neither read nor written. A fresh table frees its pages.
 pub fn apply_without_counts(nodes: usize, tables: &mut Tables, call: &Call) -> Answer {
-    let Tables { counts, cpus, distances, pages, jobs, .. } = tables;
+    let Tables { counts, cpus, distances, pages, jobs, maps, .. } = tables;
     match call {
-        Call::Request { job, cpu } => request_without_counts(counts, cpus, distances, pages, jobs, *job, *cpu),
-        Call::Release { job, page } => release_without_counts(counts, pages, jobs, *job, *page),
+        Call::Request { job, cpu } => request_without_counts(counts, cpus, distances, pages, jobs, maps, *job, *cpu),
+        Call::Release { job, page } => release_without_counts(counts, pages, jobs, maps, *job, *page),
         Call::Fresh => fresh(counts, pages, &mut counts.clone()),
         _ => apply_with(nodes, tables, call),
+    }
+}
+
+/// Makes one call as it was before M-103: the maps are neither read nor written. The calls of maps were not there.
+pub fn apply_without_maps(nodes: usize, tables: &mut Tables, call: &Call) -> Answer {
+    let Tables { counts, cpus, distances, pages, jobs, free, .. } = tables;
+    match call {
+        Call::Request { job, cpu } => request_without_maps(counts, cpus, distances, pages, jobs, free, *job, *cpu),
+        Call::Release { job, page } => release_without_maps(counts, pages, jobs, free, *job, *page),
+        Call::Install { job, mode, flag, mask, places } => {
+            install_without_maps(nodes, jobs, *job, *mode, *flag, *mask, places)
+        }
+        _ => {
+            assert!(!call.is_of_maps(), "before M-103 there was no such call: {call:?}");
+            apply_with(nodes, tables, call)
+        }
     }
 }
 

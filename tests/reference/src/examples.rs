@@ -1,10 +1,11 @@
 //! Document 01's examples and easy mistakes as one table: calls, and what 01 prints for them; a few readings of its rules;
-//! and what M-100 says of free counts.
+//! and what M-100 says of free counts, M-103 of maps.
 //!
 //! This crate runs the table on the second implementation; `hosts` runs it on the linked library and the program too.
 
 use crate::calls::{apply, Answer, Call, Tables};
 use crate::journal::{answer_bytes, call_bytes, machine_bytes, MOST_NODES};
+use crate::maps::{identity_maps, map_with, AppNode};
 use crate::record::{BIND, DEFAULT, EARLY, INTERLEAVE, LIST, NO_FLAG, PREFERRED, RELATIVE, RING, STATIC, WORDS};
 
 /// One step of an example; the record is job 0's.
@@ -20,9 +21,12 @@ pub enum Step {
     Record([u64; WORDS]),
     /// The free counts.
     Free(Vec<u32>),
+    /// The map: its 64 bytes.
+    Map(Vec<u8>),
 }
 
-/// Steps on a machine with fresh jobs; but for M-100's examples its pages are free and its free counts match.
+/// Steps on a machine with fresh jobs; but for M-100's examples its pages are free and its free counts match, and but for
+/// M-103's each job has map 0 to N-1.
 #[derive(Clone, Debug, PartialEq, Eq)]
 pub struct Example {
     pub name: String,
@@ -59,10 +63,10 @@ impl Example {
         self.call(install(mode, flag, mask, places), Answer::Done)
     }
 
-    /// Requests of job 0 from one CPU, granted from these nodes and pages.
+    /// Requests of job 0 from one CPU, granted from these nodes, by the job's own numbers, and pages.
     fn grants(mut self, cpu: usize, pages: &[(u8, u32)]) -> Example {
         for (node, page) in pages {
-            self = self.call(Call::Request { job: 0, cpu }, Answer::Granted { node: *node, page: *page });
+            self = self.call(Call::Request { job: 0, cpu }, granted(*node, *page));
         }
         self
     }
@@ -79,7 +83,22 @@ impl Example {
 
     /// Job 0 gives a page back.
     fn release(self, node: u8, page: u32) -> Example {
-        self.call(Call::Release { job: 0, page: page as usize }, Answer::Released { node, page })
+        self.call(Call::Release { job: 0, page: page as usize }, released(node, page))
+    }
+
+    /// The administrator sets job 0's map.
+    fn set_map(self, list: &[u8]) -> Example {
+        self.call(set(list), Answer::Done).map(list)
+    }
+
+    /// Job 0 keeps some of its nodes, by its own numbers; its map then has these system nodes.
+    fn keep(self, kept: &[u8], left: &[u8]) -> Example {
+        self.call(keep(kept), Answer::Done).map(left)
+    }
+
+    /// A call that is refused.
+    fn refused(self, call: Call, number: u8) -> Example {
+        self.call(call, Answer::Refused(number))
     }
 
     fn cursor(self, field: u64) -> Example {
@@ -94,6 +113,10 @@ impl Example {
         self.step(Step::Free(counts.to_vec()))
     }
 
+    fn map(self, list: &[u8]) -> Example {
+        self.step(Step::Map(map_with(list)))
+    }
+
     /// Its calls, each with the answer.
     pub fn calls(&self) -> Vec<(&Call, Answer)> {
         let mut calls = Vec::new();
@@ -105,11 +128,15 @@ impl Example {
         calls
     }
 
-    /// The example as a journal and its answers, if it fits one: N, free pages that are counted, and no fresh table.
+    /// The example as a journal and its answers, if it fits one: N, free pages that are counted, fresh jobs with map 0 to
+    /// N-1, and no fresh table and no call of maps.
     pub fn journal(&self) -> Option<(Vec<u8>, Vec<u8>)> {
-        let as_a_journal_starts = self.start.free == self.start.counts && self.start.counts_match();
-        let has_fresh = self.calls().iter().any(|(call, _)| **call == Call::Fresh);
-        if self.start.counts.len() > MOST_NODES || !as_a_journal_starts || has_fresh {
+        let Tables { counts, jobs, free, maps, .. } = &self.start;
+        let all_free = free == counts && self.start.counts_match();
+        let all_fresh = jobs.iter().all(|word| *word == 0) && *maps == identity_maps(counts.len(), jobs.len() / WORDS);
+        let has_no_record = |call: &Call| *call == Call::Fresh || call.is_of_maps();
+        let has_no_records = self.calls().iter().any(|(call, _)| has_no_record(call));
+        if counts.len() > MOST_NODES || !all_free || !all_fresh || has_no_records {
             return None;
         }
         let mut journal = machine_bytes(&self.start);
@@ -123,6 +150,14 @@ impl Example {
     }
 }
 
+/// A page granted, or given back, its node by the job's own number.
+fn granted(node: u8, page: u32) -> Answer {
+    Answer::Granted { node: AppNode(node), page }
+}
+fn released(node: u8, page: u32) -> Answer {
+    Answer::Released { node: Some(AppNode(node)), page }
+}
+
 /// An install for job 0.
 fn install(mode: u8, flag: u8, mask: u64, places: &[u8]) -> Call {
     Call::Install { job: 0, mode: u64::from(mode), flag: u64::from(flag), mask, places: places.to_vec() }
@@ -133,11 +168,11 @@ fn mask(nodes: &[usize]) -> u64 {
     nodes.iter().fold(0, |mask, node| mask | 1 << node)
 }
 
-/// A machine with free pages, which are counted, and eight fresh jobs.
+/// A machine with free pages, which are counted, and eight fresh jobs that number their nodes as it does.
 fn machine(counts: &[u32], cpus: &[u8], distances: Vec<u8>) -> Tables {
     let pages = vec![0; counts.iter().sum::<u32>() as usize];
-    let (counts, free) = (counts.to_vec(), counts.to_vec());
-    Tables { counts, cpus: cpus.to_vec(), distances, pages, jobs: vec![0; 8 * WORDS], free }
+    let (maps, counts, free) = (identity_maps(counts.len(), 8), counts.to_vec(), counts.to_vec());
+    Tables { counts, cpus: cpus.to_vec(), distances, pages, jobs: vec![0; 8 * WORDS], free, maps }
 }
 
 /// Distances of 10 on the diagonal and another number elsewhere.
@@ -177,6 +212,12 @@ pub fn all() -> Vec<Example> {
         places(),
         reach(),
         free_counts(),
+        maps(),
+        ends_of_maps(),
+        dropped_nodes(),
+        map_lists(),
+        bad_maps(),
+        node_63_in_maps(),
     ]
     .concat()
 }
@@ -391,10 +432,17 @@ fn early() -> Vec<Example> {
 
 /// Likewise: places that are passed over.
 fn places() -> Vec<Example> {
+    let mut handed_in = fresh_a();
+    handed_in.jobs[..WORDS].copy_from_slice(&[0x4_0005, 0, 0b1111, 0, 0x0001_FF04, 0]);
     vec![
-        Example::on_a("places at N or above are passed over", RING, 0, &[4, 255, 1, 0])
+        Example::new("places at N or above, in a record handed in, are passed over", handed_in)
             .grants(0, &[(1, 2), (0, 0), (1, 3), (0, 1)])
             .no_room(0),
+        Example::on_a("M-103: places at N or above are refused 6 at install", RING, 0, &[3])
+            .refused(install(RING, NO_FLAG, 0, &[4, 1]), 6)
+            .refused(install(LIST, NO_FLAG, 0, &[1, 255]), 6)
+            .refused(install(EARLY, NO_FLAG, 0, &[1, 0, 200]), 6)
+            .grants(0, &[(3, 4)]),
         Example::on_a("places that are not allowed are passed over", LIST, 0, &[0, 1])
             .rebind(0b1010)
             .grants(0, &[(1, 2), (1, 3)])
@@ -415,13 +463,13 @@ fn reach() -> Vec<Example> {
             .no_room(0),
         Example::new("an interleave target without room keeps its turn", apart)
             .call(Call::Rebind { job: 1, allowed: 0b01 }, Answer::Done)
-            .call(Call::Request { job: 1, cpu: 0 }, Answer::Granted { node: 0, page: 0 })
+            .call(Call::Request { job: 1, cpu: 0 }, granted(0, 0))
             .rebind(0b11)
             .install(INTERLEAVE, NO_FLAG, 0b11, &[])
             .no_room(0)
             .no_room(0)
             .cursor(0)
-            .call(Call::Release { job: 1, page: 0 }, Answer::Released { node: 0, page: 0 })
+            .call(Call::Release { job: 1, page: 0 }, released(0, 0))
             .grants(0, &[(0, 0), (1, 1)])
             .no_room(0),
     ]
@@ -481,7 +529,7 @@ fn free_counts() -> Vec<Example> {
             .call(held.clone(), Answer::Refused(14))
             .free(&[2, 2, 0, 2])
             .grants(0, &[(0, 1)])
-            .call(held.clone(), Answer::Released { node: 0, page: 0 })
+            .call(held.clone(), released(0, 0))
             .free(&[2, 2, 0, 2]),
         on("10 before 14 in a release", a_with([1, 0, 0, 0, 0, 0], [u32::MAX; 4]), DEFAULT, &[])
             .call(not_held, Answer::Refused(10))
@@ -497,6 +545,186 @@ fn free_counts() -> Vec<Example> {
             .grants(6, &[(3, 4)])
             .free(&[2, 2, 0, 1]),
     ]
+}
+
+/// Job 0 on machine A, allowed all nodes, with a map.
+fn mapped(name: &str, list: &[u8]) -> Example {
+    Example::new(&format!("M-103: {name}"), fresh_a()).rebind(0b1111).set_map(list)
+}
+
+/// M-103: masks and places turned at install, answers back; the search order in the map.
+fn maps() -> Vec<Example> {
+    vec![
+        mapped("default, CPU 4, on a node outside map {3,0,1}", &[3, 0, 1])
+            .grants(4, &[(1, 0), (1, 1), (0, 4), (0, 5), (2, 2), (2, 3)])
+            .no_room(4)
+            .release(0, 4)
+            .release(2, 3),
+        mapped("a mask is turned by entry: bind 0,2 in map {3,0,1} is 1,3", &[3, 0, 1])
+            .install(BIND, NO_FLAG, 0b101, &[])
+            .step(Step::Record([2, 0b1010, 0b1111, 0b1010, 0, 0]))
+            .grants(0, &[(2, 2), (2, 3), (0, 4), (0, 5)])
+            .no_room(0),
+        mapped("a static mask is turned too", &[3, 0, 1])
+            .install(INTERLEAVE, STATIC, 0b011, &[])
+            .step(Step::Record([0x0103, 0b1001, 0b1111, 0b1001, 0, 0]))
+            .grants(0, &[(1, 0), (0, 4), (1, 1), (0, 5)]),
+        mapped("a relative mask is not turned", &[3, 0, 1])
+            .install(INTERLEAVE, RELATIVE, 1 << 63 | 0b01, &[])
+            .step(Step::Record([0x0203, 1 << 63 | 0b01, 0b1111, 0b1001, 0, 0]))
+            .grants(0, &[(1, 0), (0, 4)]),
+        mapped("places are turned: ring {0,0,2} in map {3,0,1} is {3,3,1}", &[3, 0, 1])
+            .install(RING, NO_FLAG, 0, &[0, 0, 2])
+            .step(Step::Record([0x3_0005, 0, 0b1111, 0, 0x01_0303, 0]))
+            .grants(0, &[(0, 4), (0, 5), (2, 2), (2, 3)])
+            .no_room(0),
+    ]
+}
+
+/// M-103: what is not turned, what does not fit, and what a map is beside the allowed set.
+fn ends_of_maps() -> Vec<Example> {
+    vec![
+        mapped("a rebind's mask is not turned", &[3, 0, 1]).rebind(0b0001).grants(6, &[(1, 0), (1, 1)]).no_room(6),
+        mapped("an application number past the map's end is 6", &[3, 0, 1])
+            .refused(install(BIND, NO_FLAG, 0b1001, &[]), 6)
+            .refused(install(PREFERRED, STATIC, 1 << 63, &[]), 6)
+            .refused(install(LIST, NO_FLAG, 0, &[0, 3]), 6)
+            .refused(install(EARLY, NO_FLAG, 0, &[255]), 6)
+            .install(INTERLEAVE, RELATIVE, 1 << 63, &[]),
+        mapped("a mask misses the allowed set by its system nodes", &[3, 0])
+            .rebind(0b0001)
+            .refused(install(BIND, NO_FLAG, 0b01, &[]), 6)
+            .install(BIND, NO_FLAG, 0b10, &[])
+            .step(Step::Record([2, 0b0001, 0b0001, 0b0001, 0, 0])),
+        mapped("clear leaves the map", &[3, 0])
+            .call(Call::Clear { job: 0 }, Answer::Done)
+            .map(&[3, 0])
+            .rebind(0b1111)
+            .grants(6, &[(0, 4)]),
+    ]
+}
+
+/// M-103: "The tenant's call may only drop nodes"; what then happens to policies that name them and to pages held there.
+fn dropped_nodes() -> Vec<Example> {
+    vec![
+        mapped("a tenant keeps nodes 0 and 2 of map {3,0,1}", &[3, 0, 1])
+            .grants(0, &[(1, 0)])
+            .keep(&[0, 2], &[3, 1])
+            .grants(0, &[(1, 2), (1, 3), (0, 4)])
+            .keep(&[1], &[1])
+            .no_room(0),
+        mapped("a released page outside the map answers node FF", &[3, 0, 1])
+            .grants(0, &[(1, 0)])
+            .keep(&[0, 2], &[3, 1])
+            .call(Call::Release { job: 0, page: 0 }, Answer::Released { node: None, page: 0 })
+            .free(&[2, 2, 0, 2])
+            .refused(Call::Release { job: 0, page: 0 }, 10),
+        mapped("places outside the map are passed over", &[0, 1, 3])
+            .install(RING, NO_FLAG, 0, &[2, 1, 0])
+            .keep(&[0, 2], &[0, 3])
+            .grants(0, &[(1, 4), (0, 0), (1, 5), (0, 1)])
+            .cursor(3)
+            .no_room(0),
+        mapped("interleave's target may lie outside the map", &[0, 1, 3])
+            .install(INTERLEAVE, NO_FLAG, 0b111, &[])
+            .keep(&[0, 2], &[0, 3])
+            .grants(0, &[(0, 0), (0, 1)])
+            .cursor(2)
+            .grants(0, &[(1, 4)])
+            .cursor(4),
+        mapped("preferred's lowest node may lie outside the map", &[1, 0, 3])
+            .install(PREFERRED, NO_FLAG, 0b001, &[])
+            .keep(&[1, 2], &[0, 3])
+            .grants(6, &[(0, 0), (0, 1), (1, 4)]),
+        mapped("an effective set outside the map is not empty", &[1, 0, 3])
+            .install(BIND, STATIC, 0b001, &[])
+            .keep(&[1, 2], &[0, 3])
+            .no_room(0)
+            .rebind(0b1101)
+            .effective(&[], "")
+            .grants(0, &[(0, 0)]),
+    ]
+}
+
+/// A keep of nodes and a map set, both for job 0.
+fn keep(kept: &[u8]) -> Call {
+    Call::KeepNodes { job: 0, kept: kept.to_vec() }
+}
+fn set(list: &[u8]) -> Call {
+    Call::SetMap { job: 0, list: list.to_vec() }
+}
+
+/// M-103: the lists of the two calls, "else 15"; "Both test 1, 2, 15".
+fn map_lists() -> Vec<Example> {
+    let mut tenant = mapped("the tenant's list, else 15", &[3, 0, 1]);
+    for kept in [&[][..], &[0, 0], &[1, 0], &[3], &[0, 1, 2, 3], &[255]] {
+        tenant = tenant.refused(keep(kept), 15).map(&[3, 0, 1]);
+    }
+    let mut administrator = mapped("the administrator's list, else 15", &[3, 0, 1]);
+    for list in [&[][..], &[0, 0], &[4], &[0, 255], &[0; 65], &[2, 1, 0, 2]] {
+        administrator = administrator.refused(set(list), 15).map(&[3, 0, 1]);
+    }
+    vec![
+        tenant.keep(&[0, 1, 2], &[3, 0, 1]),
+        administrator.set_map(&[2, 1, 0, 3]),
+        mapped("no such job: 2", &[3])
+            .refused(Call::KeepNodes { job: 8, kept: vec![] }, 2)
+            .refused(Call::SetMap { job: 8, list: vec![] }, 2),
+    ]
+}
+
+/// M-103: a bad map is "refused 15, right after 2 in request, release and install"; a table of another length 1.
+fn bad_maps() -> Vec<Example> {
+    let request = |job, cpu| Call::Request { job, cpu };
+    let mut examples = Vec::new();
+    for bytes in [&[][..], &[3, 3], &[0, 4], &[1, 0xFF, 0], &[0xFF, 0]] {
+        let mut start = fresh_a();
+        start.maps[..64].copy_from_slice(&map_with(bytes));
+        let name = format!("M-103: a bad map {bytes:?} is 15, right after 2");
+        let example = Example::new(&name, start)
+            .rebind(0b1111)
+            .refused(request(0, 0), 15)
+            .refused(request(0, 99), 15)
+            .refused(request(8, 99), 2)
+            .refused(Call::Release { job: 0, page: 0 }, 15)
+            .refused(install(9, 9, 0, &[]), 15)
+            .refused(keep(&[0]), 15)
+            .map(bytes)
+            .call(Call::Clear { job: 0 }, Answer::Done)
+            .rebind(0b1111)
+            .set_map(&[1])
+            .grants(0, &[(0, 2)]);
+        examples.push(example);
+    }
+    let mut long = fresh_a();
+    long.maps.push(0xFF);
+    examples.push(
+        Example::new("M-103: a table not of 64 bytes a job is 1", long)
+            .rebind(0b1111)
+            .refused(request(8, 99), 1)
+            .refused(Call::Release { job: 8, page: 99 }, 1)
+            .refused(install(9, 9, 0, &[]), 1)
+            .refused(keep(&[]), 1)
+            .refused(set(&[]), 1)
+            .call(Call::Fresh, Answer::Done),
+    );
+    examples
+}
+
+/// M-103: a map of 64 entries has no FF.
+fn node_63_in_maps() -> Vec<Example> {
+    let backward: Vec<u8> = (0..64).rev().collect();
+    let sixty_four = machine(&[1; 64], &[63], flat(64, 20));
+    vec![Example::new("M-103: node 63 is application node 0 of a map without FF", sixty_four)
+        .rebind(u64::MAX)
+        .set_map(&backward)
+        .install(BIND, NO_FLAG, 1 << 63 | 1, &[])
+        .effective(&[0, 63], "0,63")
+        .grants(0, &[(0, 63), (63, 0)])
+        .no_room(0)
+        .keep(&[63], &[0])
+        .call(Call::Release { job: 0, page: 63 }, Answer::Released { node: None, page: 63 })
+        .release(0, 0)]
 }
 
 /// A text with N and the allowed set; the mask it stands for and how that is written, or the refusal.
@@ -575,6 +803,7 @@ mod tests {
                     }
                     Step::Record(words) => assert_eq!(tables.jobs[..WORDS], *words, "{told}"),
                     Step::Free(counts) => assert_eq!(tables.free, *counts, "{told}"),
+                    Step::Map(bytes) => assert_eq!(tables.maps[..64], *bytes, "{told}"),
                 }
             }
             if let Some((journal, answers)) = example.journal() {

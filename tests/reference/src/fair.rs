@@ -1,12 +1,14 @@
-//! Demand 3 by brute force: every window of k times L granted requests is counted; the free counts match at the start (M-100).
+//! Demand 3 by brute force: every window of k times L granted requests is counted; the free counts match at the start (M-100),
+//! and "allowed" means allowed and in the map (M-103).
 
 use crate::calls::{apply, first_with_room, Answer, Call, Tables};
-use crate::machine::lowest_free_page;
+use crate::machine::{lowest_free_page, node_of_page};
+use crate::maps::{map_of, nodes_in};
 use crate::masks::{has, node_of_rank, size};
-use crate::order::{place_is_allowed, search_order, Map, Part};
+use crate::order::{place_is_allowed, search_order, Machine, Part};
 use crate::record::{read, Record, INTERLEAVE, RING, WORDS};
 
-/// A granted request: its node, its page, and in ring mode its place (The lists of demand 3).
+/// A granted request: its page, the machine's node that this lies in, and in ring mode its place (The lists of demand 3).
 #[derive(Clone, Copy, Debug, PartialEq, Eq)]
 pub struct Grant {
     pub node: usize,
@@ -56,10 +58,15 @@ pub struct Unfair {
     pub times: usize,
 }
 
+/// "In demand 3 \"allowed\" then means in both" the allowed set and the map (M-103).
+fn allowed(tables: &Tables, job: usize) -> u64 {
+    read(&tables.jobs, job).allowed & nodes_in(map_of(&tables.maps, job))
+}
+
 /// "the place granted is the first that is allowed and has a free page" (The lists of demand 3).
-fn place_granted(tables: &Tables, record: &Record, cpu: usize) -> Option<usize> {
-    let map = Map { nodes: tables.counts.len(), cpus: &tables.cpus, distances: &tables.distances };
-    let order = search_order(map, record, cpu);
+fn place_granted(tables: &Tables, job: usize, cpu: usize) -> Option<usize> {
+    let machine = Machine { nodes: tables.counts.len(), cpus: &tables.cpus, distances: &tables.distances };
+    let order = search_order(machine, &read(&tables.jobs, job), allowed(tables, job), cpu);
     match first_with_room(&tables.counts, &tables.pages, &order) {
         Some((granted, _)) => match granted.part {
             Part::Place(place) => Some(place),
@@ -73,10 +80,10 @@ fn place_granted(tables: &Tables, record: &Record, cpu: usize) -> Option<usize> 
 pub fn ask(tables: &mut Tables, job: usize, cpu: usize) -> Option<Grant> {
     let before = tables.clone();
     match apply(tables, &Call::Request { job, cpu }) {
-        Answer::Granted { node, page } => {
-            let record = read(&before.jobs, job);
-            let place = if record.mode == RING { place_granted(&before, &record, cpu) } else { None };
-            Some(Grant { node: usize::from(node), page: page as usize, place })
+        Answer::Granted { page, .. } => {
+            let is_ring = read(&before.jobs, job).mode == RING;
+            let place = if is_ring { place_granted(&before, job, cpu) } else { None };
+            Some(Grant { node: node_of_page(&before.counts, page as usize)?, page: page as usize, place })
         }
         _ => None,
     }
@@ -92,17 +99,17 @@ fn length_of(record: &Record) -> usize {
 }
 
 /// For each place or node: "allowed and has a free page" (demand 3).
-fn open_ones(tables: &Tables, record: &Record) -> Vec<bool> {
-    let nodes = tables.counts.len();
+fn open_ones(tables: &Tables, job: usize) -> Vec<bool> {
+    let (nodes, record, allowed) = (tables.counts.len(), read(&tables.jobs, job), allowed(tables, job));
     let mut open = Vec::new();
-    for which in 0..length_of(record) {
+    for which in 0..length_of(&record) {
         let node = match record.mode {
-            RING if place_is_allowed(nodes, record, which) => Some(usize::from(record.places[which])),
+            RING if place_is_allowed(nodes, &record, allowed, which) => Some(usize::from(record.places[which])),
             INTERLEAVE => node_of_rank(record.effective, which),
             _ => None,
         };
         let is_open = match node {
-            Some(node) if node < nodes && has(record.allowed, node) => {
+            Some(node) if node < nodes && has(allowed, node) => {
                 lowest_free_page(&tables.counts, &tables.pages, node).is_some()
             }
             _ => false,
@@ -125,10 +132,11 @@ fn which_granted(record: &Record, grant: Grant) -> Option<usize> {
     None
 }
 
-/// The job an accepted policy call was for: install, rebind or clear (demand 3).
+/// The job whose policy or limits an accepted call sets: install, rebind, clear (demand 3), keep nodes, set map (M-103).
 fn job_whose_policy_is_set(call: &Call) -> Option<usize> {
     match call {
         Call::Install { job, .. } | Call::Rebind { job, .. } | Call::Clear { job } => Some(*job),
+        Call::KeepNodes { job, .. } | Call::SetMap { job, .. } => Some(*job),
         Call::Request { .. } | Call::Release { .. } | Call::Fresh => None,
     }
 }
@@ -173,7 +181,7 @@ fn look_at_request(tables: &mut Tables, stretch: &mut Stretch, cpu: usize, ask: 
     let before = tables.clone();
     if let Some(grant) = ask(tables, stretch.job, cpu) {
         if stretch.length >= 1 {
-            let open = open_ones(&before, &record);
+            let open = open_ones(&before, stretch.job);
             stretch.looks.push(Look { open, granted: which_granted(&record, grant) });
         }
     }
@@ -370,15 +378,22 @@ mod tests {
         let tables = policy(5, 0, &[0, 1]);
         let mut calls = requests(1);
         calls.push(Call::Rebind { job: 0, allowed: 0 });
+        calls.push(Call::KeepNodes { job: 0, kept: vec![1, 0] });
+        calls.push(Call::SetMap { job: 0, list: vec![4] });
+        calls.push(Call::SetMap { job: 1, list: vec![3] });
         calls.extend(requests(1));
         calls.push(Call::Rebind { job: 0, allowed: 0b1111 });
+        calls.extend(requests(3));
+        calls.push(Call::KeepNodes { job: 0, kept: vec![0, 1, 2, 3] });
+        calls.push(Call::Release { job: 0, page: 0 });
         calls.extend(requests(1));
+        calls.push(Call::SetMap { job: 0, list: vec![0, 1, 2, 3] });
         let lengths: Vec<usize> = stretches(&tables, &calls, ask)
             .iter()
             .filter(|stretch| stretch.job == 0)
             .map(|stretch| stretch.looks.len())
             .collect();
-        assert_eq!(lengths, vec![2, 1]);
+        assert_eq!(lengths, vec![2, 2, 1, 0]);
     }
 
     #[test]

@@ -8,7 +8,11 @@ use std::collections::VecDeque;
 use crate::calls::{apply, Answer, Call, Tables};
 use crate::journal::{call_bytes, is_used, machine_bytes, CLEAR, INSTALL, JOBS, REBIND, RELEASE, REQUEST};
 use crate::machine::free_counts;
-use crate::masks::{all_below, folded, node_of_rank, size, with};
+use crate::map_cases::{
+    bad_keep, bad_set, good_keep, good_set, numbers_of, put_map, put_some_maps, some_good_sort, wrong_length, SORTS,
+};
+use crate::maps::identity_maps;
+use crate::masks::{all_below, folded, has, node_of_rank, size, with};
 use crate::record::{
     fresh, has_a_list, has_a_mask, read, words, write, Record, BIND, EARLY, INTERLEAVE, LIST, MOST_PLACES, NO_FLAG,
     PREFERRED, RELATIVE, RING, STATIC, WORDS,
@@ -173,7 +177,7 @@ fn some_distances(dice: &mut Dice, nodes: usize) -> Vec<u8> {
     distances
 }
 
-/// A machine that keeps the rules, all pages free and counted, fresh jobs.
+/// A machine that keeps the rules, all pages free and counted, fresh jobs that number their nodes as it does.
 fn some_machine(dice: &mut Dice, nodes: usize, most_cpus: usize, jobs: usize) -> Tables {
     let counts = some_counts(dice, nodes);
     let cpus = some_cpus(dice, nodes, most_cpus);
@@ -182,8 +186,8 @@ fn some_machine(dice: &mut Dice, nodes: usize, most_cpus: usize, jobs: usize) ->
     for count in &counts {
         total += *count as usize;
     }
-    let free = counts.clone();
-    Tables { counts, cpus, distances, pages: vec![0; total], jobs: vec![0; jobs * WORDS], free }
+    let (free, maps) = (counts.clone(), identity_maps(nodes, jobs));
+    Tables { counts, cpus, distances, pages: vec![0; total], jobs: vec![0; jobs * WORDS], free, maps }
 }
 
 // ---------------------------------------------------------------- free counts
@@ -272,15 +276,19 @@ fn put_some_counts(dice: &mut Dice, tables: &mut Tables) {
 
 // ---------------------------------------------------------------- policies
 
-/// Places: mostly nodes of the machine, some at N or above.
-fn some_places(dice: &mut Dice, nodes: usize) -> Vec<u8> {
-    let length = match dice.below(10) {
+/// How many places.
+fn some_length(dice: &mut Dice) -> usize {
+    match dice.below(10) {
         0 => 16,
         1 => dice.between(1, 16),
         _ => dice.between(1, 5),
-    };
+    }
+}
+
+/// Places as a record may hold them: mostly nodes of the machine, some at N or above.
+fn some_places(dice: &mut Dice, nodes: usize) -> Vec<u8> {
     let mut places = Vec::new();
-    for _ in 0..length {
+    for _ in 0..some_length(dice) {
         let place = match dice.below(14) {
             0 => nodes as u8,
             1 => dice.byte(),
@@ -291,33 +299,43 @@ fn some_places(dice: &mut Dice, nodes: usize) -> Vec<u8> {
     places
 }
 
+/// Places as an install takes them: each below a map's end.
+fn places_below(dice: &mut Dice, end: usize) -> Vec<u8> {
+    (0..some_length(dice)).map(|_| dice.below(end) as u8).collect()
+}
+
+/// The application nodes of a map that are in a set of system nodes.
+fn seen_of(map: &[u8], set: u64) -> u64 {
+    (0..map.len()).filter(|node| has(set, usize::from(map[*node]))).fold(0, with)
+}
+
 /// A mode, ring and interleave more often than the others.
 fn some_mode(dice: &mut Dice) -> u8 {
     dice.pick(&[0, 1, 2, 3, 3, 3, 4, 5, 5, 5, 6, 6])
 }
 
-/// A user mask that install takes with this flag.
-fn some_user_mask(dice: &mut Dice, nodes: usize, allowed: u64, flag: u8) -> u64 {
+/// A user mask that install takes with this flag, in the numbers of a map.
+fn some_user_mask(dice: &mut Dice, map: &[u8], allowed: u64, flag: u8) -> u64 {
     if flag == RELATIVE {
         return dice.part_of(u64::MAX);
     }
-    let inside = dice.part_of(allowed);
-    let anywhere = if dice.chance(50) { dice.mask() & all_below(nodes) } else { 0 };
+    let inside = dice.part_of(seen_of(map, allowed));
+    let anywhere = if dice.chance(50) { dice.mask() & all_below(map.len()) } else { 0 };
     inside | anywhere
 }
 
-/// An install that is accepted where the job's allowed set is not empty.
-fn good_install(dice: &mut Dice, nodes: usize, job: usize, allowed: u64) -> Call {
+/// An install that is accepted where the job's map has these entries and its allowed set one of them.
+fn good_install(dice: &mut Dice, map: &[u8], job: usize, allowed: u64) -> Call {
     let mode = some_mode(dice);
     let mut flag = NO_FLAG;
     let mut mask = 0;
     let mut places = Vec::new();
     if has_a_list(mode) {
-        places = some_places(dice, nodes);
+        places = places_below(dice, map.len());
     }
     if has_a_mask(mode) {
         flag = dice.pick(&[NO_FLAG, STATIC, RELATIVE]);
-        mask = some_user_mask(dice, nodes, allowed, flag);
+        mask = some_user_mask(dice, map, allowed, flag);
     }
     if mode == PREFERRED && dice.chance(25) {
         flag = NO_FLAG;
@@ -326,32 +344,42 @@ fn good_install(dice: &mut Dice, nodes: usize, job: usize, allowed: u64) -> Call
     Call::Install { job, mode: u64::from(mode), flag: u64::from(flag), mask, places }
 }
 
-/// An install that is refused 5, 6 or 7 (Refusal numbers), in one of many ways.
-fn bad_install(dice: &mut Dice, nodes: usize, job: usize, allowed: u64) -> Call {
-    let inside = dice.part_of(allowed);
+/// Places with one at or past a map's end.
+fn far_places(dice: &mut Dice, end: usize) -> Vec<u8> {
+    let mut places = places_below(dice, end);
+    let (at, any) = (dice.below(places.len()), dice.between(end, 255) as u8);
+    places[at] = dice.pick(&[end as u8, any, 255]);
+    places
+}
+
+/// An install that is refused 5, 6 or 7 (Refusal numbers), in one of many ways, all but for its map, which has these entries.
+fn bad_install(dice: &mut Dice, map: &[u8], job: usize, allowed: u64) -> Call {
+    let end = map.len();
+    let inside = dice.part_of(seen_of(map, allowed));
     let mask_mode = u64::from(dice.pick(&[PREFERRED, BIND, INTERLEAVE]));
     let list_mode = u64::from(dice.pick(&[LIST, RING, EARLY]));
     let plain_mode = u64::from(dice.pick(&[0, LIST, RING, EARLY]));
     let any_flag = dice.below(3) as u64;
     let low_flag = dice.below(2) as u64;
-    let some = some_places(dice, nodes);
-    let above_n = if nodes < 64 { 1u64 << dice.between(nodes, 63) } else { 0 };
-    let outside = all_below(nodes) & !allowed;
+    let some = places_below(dice, end);
+    let past_end = if end < 64 { 1u64 << dice.between(end, 63) } else { 0 };
+    let outside = all_below(end) & !seen_of(map, allowed);
     let long = dice.pick(&[17, 18, 32, 255]);
-    let (mode, flag, mask, places) = match dice.below(14) {
+    let (mode, flag, mask, places) = match dice.below(16) {
         0 => (dice.between(7, 255) as u64, any_flag, inside, vec![]),
         1 => (mask_mode, dice.between(3, 255) as u64, inside, vec![]),
         2 => (plain_mode, 1 + low_flag, 0, if plain_mode == 0 { vec![] } else { some }),
         3 => (u64::from(PREFERRED), 1 + low_flag, 0, vec![]),
         4 => (u64::from(dice.pick(&[BIND, INTERLEAVE])), any_flag, 0, vec![]),
-        5 => (0, 0, inside, vec![]),
-        6 => (list_mode, 0, inside, some),
-        7 if above_n != 0 => (mask_mode, low_flag, inside | above_n, vec![]),
+        5 if inside != 0 => (0, 0, inside, vec![]),
+        6 if inside != 0 => (list_mode, 0, inside, some),
+        7 if past_end != 0 => (mask_mode, low_flag, inside | past_end, vec![]),
         8 if outside != 0 => (mask_mode, low_flag, dice.part_of(outside), vec![]),
         9 => (mask_mode, any_flag, inside, some),
         10 => (0, 0, 0, some),
         11 => (list_mode, 0, 0, vec![0; long]),
-        12 => (list_mode, 0, 0, vec![dice.below(nodes) as u8; 17]),
+        12 => (list_mode, 0, 0, vec![dice.below(end) as u8; 17]),
+        13 | 14 => (list_mode, 0, 0, far_places(dice, end)),
         _ => (list_mode, 0, 0, vec![]),
     };
     Call::Install { job, mode, flag, mask, places }
@@ -407,8 +435,8 @@ struct Script {
     run_left: usize,
     /// Whether releases are more common than requests just now.
     draining: bool,
-    /// Whether a call may make a fresh table, which no journal can.
-    has_fresh: bool,
+    /// Whether calls may be those that no journal has: fresh tables and maps.
+    past_journals: bool,
 }
 
 impl Script {
@@ -479,26 +507,36 @@ impl Script {
 
     /// A policy call: accepted for most jobs, refused for the watched ones.
     fn policy(&mut self, job: usize) -> Call {
-        let nodes = self.nodes();
-        let allowed = self.allowed(job);
         if self.watched.contains(&job) {
             return self.bad_policy(job);
+        }
+        let (nodes, allowed, map) = (self.nodes(), self.allowed(job), numbers_of(&self.book, job));
+        if self.past_journals && self.dice.chance(30) {
+            return match self.dice.chance(40) {
+                true => good_keep(&mut self.dice, job, map.len()),
+                false => good_set(&mut self.dice, nodes, job),
+            };
         }
         if self.dice.chance(45) {
             good_rebind(&mut self.dice, nodes, job)
         } else {
-            good_install(&mut self.dice, nodes, job, allowed)
+            good_install(&mut self.dice, &map, job, allowed)
         }
     }
 
     /// A policy call that is refused.
     fn bad_policy(&mut self, job: usize) -> Call {
-        let nodes = self.nodes();
-        let allowed = self.allowed(job);
+        let (nodes, allowed, map) = (self.nodes(), self.allowed(job), numbers_of(&self.book, job));
+        if self.past_journals && self.dice.chance(20) {
+            return match self.dice.chance(50) {
+                true => bad_keep(&mut self.dice, job, map.len()),
+                false => bad_set(&mut self.dice, nodes, job),
+            };
+        }
         if self.dice.chance(25) {
             bad_rebind(&mut self.dice, nodes, job)
         } else {
-            bad_install(&mut self.dice, nodes, job, allowed)
+            bad_install(&mut self.dice, &map, job, allowed)
         }
     }
 
@@ -507,16 +545,14 @@ impl Script {
         if self.watched.contains(&job) {
             return self.bad_policy(job);
         }
+        let (nodes, map) = (self.nodes(), numbers_of(&self.book, job));
         if self.dice.chance(40) {
-            let nodes = self.nodes();
-            let all = all_below(nodes);
-            let install = good_install(&mut self.dice, nodes, job, all);
+            let install = good_install(&mut self.dice, &map, job, all_below(nodes));
             self.queue.push_back(install);
         }
-        let nodes = self.nodes();
         let rebind = good_rebind(&mut self.dice, nodes, job);
         self.queue.push_back(rebind);
-        let install = good_install(&mut self.dice, nodes, job, all_below(nodes));
+        let install = good_install(&mut self.dice, &map, job, all_below(nodes));
         self.queue.push_back(install);
         Call::Clear { job }
     }
@@ -539,12 +575,14 @@ impl Script {
     /// A call for a job that does not exist (64 or above).
     fn call_of_no_job(&mut self) -> Call {
         let job = self.dice.pick(&[64, 65, 100, 200, 255]);
-        match self.dice.below(5) {
+        match self.dice.below(if self.past_journals { 7 } else { 5 }) {
             0 => Call::Request { job, cpu: 0 },
             1 => Call::Release { job, page: 0 },
             2 => Call::Rebind { job, allowed: 1 },
             3 => Call::Install { job, mode: 0, flag: 0, mask: 0, places: vec![] },
-            _ => Call::Clear { job },
+            4 => Call::Clear { job },
+            5 => Call::KeepNodes { job, kept: vec![0] },
+            _ => Call::SetMap { job, list: vec![0] },
         }
     }
 
@@ -622,7 +660,7 @@ impl Script {
         if let Some(call) = self.queue.pop_front() {
             return call;
         }
-        if self.has_fresh && self.dice.chance(1) {
+        if self.past_journals && self.dice.chance(1) {
             return Call::Fresh;
         }
         if self.run_left > 0 {
@@ -678,13 +716,14 @@ pub fn journal_parts(seed: u64, records: usize) -> (Tables, Vec<Call>) {
     let how_many = dice.pick(&[1, 2, 3, 3, 4, 6]);
     let active = some_jobs(&mut dice, how_many, JOBS);
     let mut queue = VecDeque::new();
+    let map = numbers_of(&start, 0);
     for job in &active {
         if dice.chance(10) {
-            queue.push_back(good_install(&mut dice, nodes, *job, all_below(nodes)));
-            queue.push_back(bad_install(&mut dice, nodes, *job, all_below(nodes)));
+            queue.push_back(good_install(&mut dice, &map, *job, all_below(nodes)));
+            queue.push_back(bad_install(&mut dice, &map, *job, all_below(nodes)));
         }
         queue.push_back(good_rebind(&mut dice, nodes, *job));
-        queue.push_back(good_install(&mut dice, nodes, *job, all_below(nodes)));
+        queue.push_back(good_install(&mut dice, &map, *job, all_below(nodes)));
     }
     let mut script = Script {
         dice,
@@ -695,7 +734,7 @@ pub fn journal_parts(seed: u64, records: usize) -> (Tables, Vec<Call>) {
         run_job: 0,
         run_left: 0,
         draining: false,
-        has_fresh: false,
+        past_journals: false,
     };
     let calls = script.calls(records);
     (start, calls)
@@ -717,8 +756,8 @@ pub fn journal(seed: u64, records: usize) -> Vec<u8> {
 }
 
 /// A list of calls as demand 3 takes it: any page table with counts that match,
-/// any job table, some fresh tables, and no accepted policy call for the jobs
-/// that start in ring or interleave mode.
+/// any job table and maps, some fresh tables, and no accepted call that sets policy
+/// or limits for the jobs that start in ring or interleave mode, whose maps are good.
 pub fn list(seed: u64, how_many: usize) -> (Tables, Vec<Call>) {
     let mut dice = Dice::new(seed ^ 0x1157);
     let nodes = match dice.below(10) {
@@ -736,26 +775,30 @@ pub fn list(seed: u64, how_many: usize) -> (Tables, Vec<Call>) {
         if ring_or_interleave {
             watched.push(job);
         }
-        let record = start_record(&mut dice, nodes, ring_or_interleave);
-        start.jobs[job * WORDS..job * WORDS + WORDS].copy_from_slice(&record);
-    }
-    let mut active = Vec::new();
-    for job in 0..job_count {
-        active.push(job);
+        start_job(&mut dice, &mut start, job, ring_or_interleave);
     }
     let mut script = Script {
         dice,
         book: start.clone(),
-        active,
+        active: (0..job_count).collect(),
         watched,
         queue: VecDeque::new(),
         run_job: 0,
         run_left: 0,
         draining: false,
-        has_fresh: true,
+        past_journals: true,
     };
     let calls = script.calls(how_many);
     (start, calls)
+}
+
+/// A record and a map to start a list with.
+fn start_job(dice: &mut Dice, start: &mut Tables, job: usize, ring_or_interleave: bool) {
+    let record = start_record(dice, start.counts.len(), ring_or_interleave);
+    start.jobs[job * WORDS..job * WORDS + WORDS].copy_from_slice(&record);
+    let good_map = ring_or_interleave || dice.chance(70);
+    let sort = if good_map { some_good_sort(dice) } else { dice.pick(&SORTS) };
+    put_map(dice, start, job, sort);
 }
 
 /// A record to start a list with: ring or interleave, or anything at all.
@@ -813,7 +856,7 @@ fn record_with_unused_byte(dice: &mut Dice, nodes: usize, kind: u8) -> Vec<u8> {
         REQUEST => Call::Request { job: dice.below(64), cpu: 0 },
         RELEASE => Call::Release { job: dice.below(64), page: dice.below(100) },
         REBIND => good_rebind(dice, nodes, 1),
-        INSTALL => good_install(dice, nodes, 1, all_below(nodes)),
+        INSTALL => good_install(dice, &identity_maps(nodes, 1)[..nodes], 1, all_below(nodes)),
         _ => Call::Clear { job: dice.below(64) },
     };
     let mut record = call_bytes(&call).to_vec();
@@ -1192,7 +1235,7 @@ fn huge_tables(dice: &mut Dice) -> Tables {
 /// Damages tables in one way.
 fn damage_tables(dice: &mut Dice, tables: &mut Tables) {
     let node = dice.below(tables.counts.len());
-    match dice.below(18) {
+    match dice.below(21) {
         0 => tables.counts = Vec::new(),
         1 => tables.counts.push(0),
         2 => tables.counts = vec![0; 65],
@@ -1218,12 +1261,25 @@ fn damage_tables(dice: &mut Dice, tables: &mut Tables) {
             let length = dice.below(tables.pages.len());
             tables.pages.truncate(length);
         }
-        14 => tables.jobs = Vec::new(),
-        15 => tables.jobs.push(0),
-        16 => {
+        14..=18 => damage_jobs(dice, tables),
+        _ => wrong_length(dice, tables),
+    }
+}
+
+/// Damages the job table, with its maps or without them.
+fn damage_jobs(dice: &mut Dice, tables: &mut Tables) {
+    match dice.below(5) {
+        0 => tables.jobs = Vec::new(),
+        1 => tables.jobs.push(0),
+        2 => {
             tables.jobs.pop();
         }
-        _ => tables.jobs = vec![0; 65 * WORDS],
+        3 => tables.jobs = vec![0; 65 * WORDS],
+        _ => {
+            // As many maps as jobs, but too many of both.
+            tables.jobs = vec![0; 65 * WORDS];
+            tables.maps = identity_maps(tables.counts.len(), 65);
+        }
     }
 }
 
@@ -1244,7 +1300,8 @@ fn some_call(dice: &mut Dice, nodes: usize, tables: &Tables) -> Call {
     if job < tables.jobs.len() / WORDS {
         allowed = read(&tables.jobs, job).allowed;
     }
-    match dice.below(15) {
+    let map = numbers_of(tables, job);
+    match dice.below(19) {
         0..=4 => {
             let count = tables.cpus.len();
             let far = dice.pick(&[count, count + 1, 256, usize::MAX, 1 << 32]);
@@ -1252,8 +1309,8 @@ fn some_call(dice: &mut Dice, nodes: usize, tables: &Tables) -> Call {
             Call::Request { job, cpu }
         }
         5 | 6 => some_release(dice, tables, job),
-        7 | 8 => good_install(dice, nodes, job, allowed),
-        9 => bad_install(dice, nodes, job, allowed),
+        7 | 8 => good_install(dice, &map, job, allowed),
+        9 => bad_install(dice, &map, job, allowed),
         10 => Call::Install {
             job,
             mode: dice.pick(&[0, 3, 7, 255, 256, 257, u64::MAX, 1 << 32]),
@@ -1264,6 +1321,10 @@ fn some_call(dice: &mut Dice, nodes: usize, tables: &Tables) -> Call {
         11 => good_rebind(dice, nodes, job),
         12 => Call::Rebind { job, allowed: dice.mask() },
         13 => Call::Clear { job },
+        14 => good_keep(dice, job, map.len()),
+        15 => bad_keep(dice, job, map.len()),
+        16 => good_set(dice, nodes, job),
+        17 => bad_set(dice, nodes, job),
         _ => Call::Fresh,
     }
 }
@@ -1287,6 +1348,7 @@ pub fn case(seed: u64) -> Case {
     let mut dice = Dice::new(seed ^ 0x7AB1E5);
     let mut tables = if seed % 97 == 96 { huge_tables(&mut dice) } else { good_tables(&mut dice) };
     put_some_counts(&mut dice, &mut tables);
+    put_some_maps(&mut dice, &mut tables);
     let mut nodes = tables.counts.len();
     let call = some_call(&mut dice, nodes, &tables);
     if dice.chance(12) {
@@ -1553,7 +1615,7 @@ mod tests {
                     if old.flag == STATIC && old.effective == 0 {
                         shown.static_and_empty += 1;
                     }
-                    if old.mode == INTERLEAVE && new.cursor != node + 1 {
+                    if old.mode == INTERLEAVE && new.cursor != node.0 + 1 {
                         shown.served_by_other += 1;
                     }
                     if old.mode == RING && old.cursor != 0 && new.cursor <= old.cursor {
@@ -1574,13 +1636,14 @@ mod tests {
                         shown.others_page += 1;
                     }
                 }
-                (Call::Install { mode, flag, places, .. }, Answer::Done) => {
+                (Call::Install { mode, flag, .. }, Answer::Done) => {
                     shown.installed.insert((*mode as u8, *flag as u8));
-                    if places.iter().any(|place| usize::from(*place) >= tables.counts.len()) {
-                        shown.far_places += 1;
-                    }
                 }
-                (Call::Install { places, .. }, Answer::Refused(6)) if places.len() > 16 => shown.long_lists += 1,
+                (Call::Install { places, .. }, Answer::Refused(6)) => {
+                    let is_far = |place: &u8| usize::from(*place) >= tables.counts.len();
+                    shown.long_lists += usize::from(places.len() > 16);
+                    shown.far_places += usize::from(places.len() <= 16 && places.iter().any(is_far));
+                }
                 (Call::Rebind { job, .. }, Answer::Done) if read(&before.jobs, *job).cursor != 0 => {
                     shown.rebinds_with_cursor += 1;
                 }
@@ -1760,6 +1823,8 @@ mod tests {
                 Call::Install { .. } => 4,
                 Call::Clear { .. } => 5,
                 Call::Fresh => 16,
+                Call::KeepNodes { .. } => 17,
+                Call::SetMap { .. } => 18,
             };
             shown.insert((kind, refusal(answer)));
             if refusal(answer) != 0 {
@@ -1785,11 +1850,13 @@ mod tests {
             (1, 4),
             (1, 8),
             (1, 14),
+            (1, 15),
             (2, 0),
             (2, 1),
             (2, 2),
             (2, 10),
             (2, 14),
+            (2, 15),
             (3, 0),
             (3, 1),
             (3, 2),
@@ -1803,11 +1870,20 @@ mod tests {
             (4, 5),
             (4, 6),
             (4, 7),
+            (4, 15),
             (5, 0),
             (5, 1),
             (5, 2),
             (16, 0),
             (16, 1),
+            (17, 0),
+            (17, 1),
+            (17, 2),
+            (17, 15),
+            (18, 0),
+            (18, 1),
+            (18, 2),
+            (18, 15),
         ];
         assert_eq!(shown, BTreeSet::from(expected));
         assert_eq!(granted, all_modes_and_flags());

@@ -2,6 +2,7 @@
 
 use crate::calls::{apply, Answer, Call, Tables};
 use crate::machine::{all_pages, cpus_fit, distances_fit};
+use crate::maps::{identity_maps, END};
 use crate::record::{MOST_PLACES, WORDS};
 
 /// "mark 4E 50" of machine and call records (The journal program).
@@ -39,8 +40,12 @@ pub fn answer_bytes(kind: u8, answer: Answer) -> [u8; ANSWER] {
     let mut node_byte = 0xFF;
     let mut page_number = 0xFFFF_FFFF;
     match answer {
-        Answer::Granted { node, page } | Answer::Released { node, page } => {
-            node_byte = node;
+        Answer::Granted { node, page } => {
+            node_byte = node.0;
+            page_number = page;
+        }
+        Answer::Released { node, page } => {
+            node_byte = node.map_or(END, |node| node.0);
             page_number = page;
         }
         Answer::Done => {}
@@ -74,7 +79,7 @@ fn machine_length(nodes: usize, cpu_count: usize) -> usize {
 }
 
 /// The tables a whole machine record describes, all pages free, 64 fresh jobs (The journal program); the free counts are
-/// the page counts, so they match (M-100).
+/// the page counts, so they match (M-100); "Journal jobs have map 0 to N-1" (M-103).
 fn tables_of(nodes: usize, cpu_count: usize, journal: &[u8]) -> Tables {
     let mut counts = Vec::new();
     for node in 0..nodes {
@@ -94,6 +99,7 @@ fn tables_of(nodes: usize, cpu_count: usize, journal: &[u8]) -> Tables {
         pages,
         jobs: vec![0; JOBS * WORDS],
         free,
+        maps: identity_maps(nodes, JOBS),
     }
 }
 
@@ -267,7 +273,7 @@ pub fn machine_bytes(tables: &Tables) -> Vec<u8> {
     bytes
 }
 
-/// The 32 bytes of a call whose numbers fit its fields (The journal program). A fresh table has no record: it panics.
+/// The 32 bytes of a call whose numbers fit its fields (The journal program). Fresh tables and maps have no record: it panics.
 pub fn call_bytes(call: &Call) -> [u8; RECORD] {
     let mut bytes = [0; RECORD];
     bytes[0] = MARK[0];
@@ -303,7 +309,7 @@ pub fn call_bytes(call: &Call) -> [u8; RECORD] {
             bytes[2] = CLEAR;
             bytes[3] = *job as u8;
         }
-        Call::Fresh => panic!("a journal has no record for a fresh table"),
+        Call::Fresh | Call::KeepNodes { .. } | Call::SetMap { .. } => panic!("a journal has no record for {call:?}"),
     }
     bytes
 }

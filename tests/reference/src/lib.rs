@@ -1,4 +1,4 @@
-//! The second, independent implementation of document 01, as document 02 amends it: M-100 to M-102.
+//! The second, independent implementation of document 01, as document 02 amends it: M-100 to M-103.
 //!
 //! Written from the papers alone, to be compared with the real one byte for
 //! byte. Plain and slow on purpose: every function is named after the papers'
@@ -12,6 +12,8 @@ pub mod fair;
 pub mod generate;
 pub mod journal;
 pub mod machine;
+pub mod map_cases;
+pub mod maps;
 pub mod masks;
 pub mod near;
 pub mod near_cases;
@@ -20,6 +22,8 @@ pub mod program;
 pub mod record;
 pub mod text;
 
+#[cfg(test)]
+mod identity;
 #[cfg(test)]
 mod matching;
 #[cfg(test)]

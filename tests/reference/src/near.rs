@@ -2,7 +2,7 @@
 
 use crate::machine::distances_fit;
 use crate::masks::{has, lies_below};
-use crate::order::{near, Map};
+use crate::order::{near, Machine};
 
 /// What the call gives: how many nodes it listed, and in how many rounds (M-102).
 #[derive(Clone, Copy, Debug, PartialEq, Eq)]
@@ -29,7 +29,7 @@ pub fn write_near(nodes: usize, distances: &[u8], set: u64, x: usize, out: &mut 
     if !lies_below(set, nodes) || x >= nodes {
         return Err(6);
     }
-    let order = near(Map { nodes, cpus: &[], distances }, set, x);
+    let order = near(Machine { nodes, cpus: &[], distances }, set, x);
     if out.len() < order.len() {
         return Err(11);
     }

@@ -22,26 +22,26 @@ pub struct Try {
 
 /// The part of the machine the order needs (The machine).
 #[derive(Clone, Copy)]
-pub struct Map<'a> {
+pub struct Machine<'a> {
     pub nodes: usize,
     pub cpus: &'a [u8],
     pub distances: &'a [u8],
 }
 
 /// The distance in row x (The machine: "row by row").
-fn distance(map: Map, from: usize, to: usize) -> u8 {
-    map.distances[from * map.nodes + to]
+fn distance(machine: Machine, from: usize, to: usize) -> u8 {
+    machine.distances[from * machine.nodes + to]
 }
 
 /// near(x): "x first if allowed, then the other allowed nodes at distance below 255 in row x" (Search order).
-pub fn near(map: Map, allowed: u64, x: usize) -> Vec<usize> {
+pub fn near(machine: Machine, allowed: u64, x: usize) -> Vec<usize> {
     let mut order = Vec::new();
     if has(allowed, x) {
         order.push(x);
     }
     for how_far in NEAREST..UNREACHABLE {
-        for node in 0..map.nodes {
-            if node != x && has(allowed, node) && distance(map, x, node) == how_far {
+        for node in 0..machine.nodes {
+            if node != x && has(allowed, node) && distance(machine, x, node) == how_far {
                 order.push(node);
             }
         }
@@ -64,20 +64,20 @@ fn static_and_empty(record: &Record) -> bool {
 }
 
 /// "near(lowest effective node), or near(CPU's node) with an empty user mask" (Search order, preferred).
-fn preferred(map: Map, record: &Record, cpu_node: usize) -> Vec<usize> {
+fn preferred(machine: Machine, record: &Record, limit: u64, cpu_node: usize) -> Vec<usize> {
     if record.user == 0 {
-        return near(map, record.allowed, cpu_node);
+        return near(machine, limit, cpu_node);
     }
     match lowest(record.effective) {
-        Some(node) => near(map, record.allowed, node),
+        Some(node) => near(machine, limit, node),
         None => Vec::new(),
     }
 }
 
 /// "near(CPU's node), effective nodes only" (Search order, bind).
-fn bind(map: Map, record: &Record, cpu_node: usize) -> Vec<usize> {
+fn bind(machine: Machine, record: &Record, limit: u64, cpu_node: usize) -> Vec<usize> {
     let mut order = Vec::new();
-    for node in near(map, record.allowed, cpu_node) {
+    for node in near(machine, limit, cpu_node) {
         if has(record.effective, node) {
             order.push(node);
         }
@@ -98,24 +98,24 @@ pub fn target(record: &Record) -> Option<usize> {
 }
 
 /// "then near(t)" (Search order, interleave).
-fn interleave(map: Map, record: &Record) -> Vec<usize> {
+fn interleave(machine: Machine, record: &Record, limit: u64) -> Vec<usize> {
     match target(record) {
-        Some(t) => near(map, record.allowed, t),
+        Some(t) => near(machine, limit, t),
         None => Vec::new(),
     }
 }
 
-/// "A place whose byte is N or more, or not allowed, is passed over" (Search order).
-pub fn place_is_allowed(nodes: usize, record: &Record, place: usize) -> bool {
+/// "A place whose byte is N or more, or not allowed, is passed over" (Search order); or outside the map (M-103).
+pub fn place_is_allowed(nodes: usize, record: &Record, limit: u64, place: usize) -> bool {
     let node = usize::from(record.places[place]);
-    node < nodes && has(record.allowed, node)
+    node < nodes && has(limit, node)
 }
 
 /// Places in a given turn, the passed over ones left out (Search order).
-fn tries_of_places(nodes: usize, record: &Record, turn: &[usize]) -> Vec<Try> {
+fn tries_of_places(nodes: usize, record: &Record, limit: u64, turn: &[usize]) -> Vec<Try> {
     let mut tries = Vec::new();
     for place in turn {
-        if place_is_allowed(nodes, record, *place) {
+        if place_is_allowed(nodes, record, limit, *place) {
             let node = usize::from(record.places[*place]);
             tries.push(Try { node, part: Part::Place(*place) });
         }
@@ -163,21 +163,22 @@ fn early_turn(length: usize, cursor_field: u8) -> Vec<usize> {
     turn
 }
 
-/// The whole search order of a well-formed record for a request from a CPU (Search order).
-pub fn search_order(map: Map, record: &Record, cpu: usize) -> Vec<Try> {
-    let cpu_node = usize::from(map.cpus[cpu]);
+/// The whole search order of a well-formed record for a request from a CPU (Search order). The limit is the allowed set, as
+/// 01 has it; or its nodes in the map: "The search order drops nodes outside the map" (M-103). What is effective stays.
+pub fn search_order(machine: Machine, record: &Record, limit: u64, cpu: usize) -> Vec<Try> {
+    let cpu_node = usize::from(machine.cpus[cpu]);
     let length = usize::from(record.length);
     if static_and_empty(record) {
-        return as_near(near(map, record.allowed, cpu_node));
+        return as_near(near(machine, limit, cpu_node));
     }
     match record.mode {
-        PREFERRED => as_near(preferred(map, record, cpu_node)),
-        BIND => as_near(bind(map, record, cpu_node)),
-        INTERLEAVE => as_near(interleave(map, record)),
-        LIST => tries_of_places(map.nodes, record, &list_turn(length)),
-        RING => tries_of_places(map.nodes, record, &ring_turn(length, record.cursor)),
-        EARLY => tries_of_places(map.nodes, record, &early_turn(length, record.cursor)),
-        _ => as_near(near(map, record.allowed, cpu_node)),
+        PREFERRED => as_near(preferred(machine, record, limit, cpu_node)),
+        BIND => as_near(bind(machine, record, limit, cpu_node)),
+        INTERLEAVE => as_near(interleave(machine, record, limit)),
+        LIST => tries_of_places(machine.nodes, record, limit, &list_turn(length)),
+        RING => tries_of_places(machine.nodes, record, limit, &ring_turn(length, record.cursor)),
+        EARLY => tries_of_places(machine.nodes, record, limit, &early_turn(length, record.cursor)),
+        _ => as_near(near(machine, limit, cpu_node)),
     }
 }
 
@@ -204,18 +205,18 @@ mod tests {
 
     #[test]
     fn near_puts_x_first_even_before_a_lower_neighbour_at_distance_10() {
-        let map = Map { nodes: 3, cpus: &[0], distances: &[10, 10, 10, 10, 10, 10, 10, 10, 10] };
-        assert_eq!(near(map, 0b111, 2), vec![2, 0, 1]);
-        assert_eq!(near(map, 0b011, 2), vec![0, 1]);
+        let machine = Machine { nodes: 3, cpus: &[0], distances: &[10, 10, 10, 10, 10, 10, 10, 10, 10] };
+        assert_eq!(near(machine, 0b111, 2), vec![2, 0, 1]);
+        assert_eq!(near(machine, 0b011, 2), vec![0, 1]);
     }
 
     #[test]
     fn near_leaves_out_the_unreachable_and_goes_by_row_x() {
-        let map = Map { nodes: 3, cpus: &[0], distances: &[10, 255, 30, 20, 10, 254, 255, 10, 10] };
-        assert_eq!(near(map, 0b111, 0), vec![0, 2]);
-        assert_eq!(near(map, 0b111, 1), vec![1, 0, 2]);
-        assert_eq!(near(map, 0b111, 2), vec![2, 1]);
-        assert_eq!(near(map, 0b010, 0), Vec::<usize>::new());
+        let machine = Machine { nodes: 3, cpus: &[0], distances: &[10, 255, 30, 20, 10, 254, 255, 10, 10] };
+        assert_eq!(near(machine, 0b111, 0), vec![0, 2]);
+        assert_eq!(near(machine, 0b111, 1), vec![1, 0, 2]);
+        assert_eq!(near(machine, 0b111, 2), vec![2, 1]);
+        assert_eq!(near(machine, 0b010, 0), Vec::<usize>::new());
     }
 
     #[test]

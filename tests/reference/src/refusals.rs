@@ -2,6 +2,7 @@
 
 use crate::calls::{apply, apply_with, Answer, Call, Tables};
 use crate::examples::machine_a;
+use crate::maps::{identity_maps, map_with, AppNode};
 use crate::record::{read, WORDS};
 
 /// Asserts a refusal, and that the tables stay as they are.
@@ -60,7 +61,7 @@ fn bad_pages() -> Vec<Tables> {
 }
 
 /// Changes that break the CPU table or the distances.
-fn bad_maps() -> Vec<Tables> {
+fn bad_machines() -> Vec<Tables> {
     vec![
         a_with(|t| t.cpus = vec![]),
         a_with(|t| t.cpus = vec![0; 257]),
@@ -84,7 +85,7 @@ fn bad_counts() -> Vec<Tables> {
 
 #[test]
 fn request_1() {
-    for tables in [bad_job_tables(), bad_pages(), bad_maps(), bad_counts()].concat() {
+    for tables in [bad_job_tables(), bad_pages(), bad_machines(), bad_counts()].concat() {
         refused(&tables, 4, Call::Request { job: 999, cpu: 999 }, 1);
         refused(&tables, 4, Call::Request { job: 0, cpu: 0 }, 1);
     }
@@ -132,7 +133,7 @@ fn request_14_after_4_and_before_8() {
     refused(&a_counted(&[0, 0, 9, 9, 0, 0], &[0, u32::MAX, 0, 2]), 4, request.clone(), 14);
     refused(&a_counted(&[0; 6], &[0; 4]), 4, request.clone(), 8);
     let mut found_before = a_counted(&[0, 0, 9, 9, 0, 0], &[1, 2, 0, 2]);
-    assert_eq!(apply(&mut found_before, &request), Answer::Granted { node: 0, page: 0 });
+    assert_eq!(apply(&mut found_before, &request), Answer::Granted { node: AppNode(0), page: 0 });
     assert_eq!(found_before.free, [0, 2, 0, 2]);
     refused(&found_before, 4, request, 14);
 }
@@ -150,7 +151,7 @@ fn release_14_after_10() {
     }
     for below in [0, 1] {
         let mut tables = a_counted(&[1, 2, 0, 0, 0, 0], &[below, 9, 9, 9]);
-        assert_eq!(apply(&mut tables, &release(0, 0)), Answer::Released { node: 0, page: 0 });
+        assert_eq!(apply(&mut tables, &release(0, 0)), Answer::Released { node: Some(AppNode(0)), page: 0 });
         assert_eq!(tables.free, [below + 1, 9, 9, 9]);
         assert_eq!(tables.pages, [0, 2, 0, 0, 0, 0]);
     }
@@ -162,7 +163,7 @@ fn fresh_1_and_nothing_else() {
     for tables in [bad_pages(), bad_counts()].concat() {
         refused(&tables, 4, Call::Fresh, 1);
     }
-    for tables in [bad_job_tables(), bad_maps()].concat() {
+    for tables in [bad_job_tables(), bad_machines()].concat() {
         let mut after = tables.clone();
         assert_eq!(apply(&mut after, &Call::Fresh), Answer::Done);
         assert_eq!(after, tables);
@@ -203,14 +204,20 @@ fn release_1_2_10() {
         refused(&held, 4, Call::Release { job: 0, page }, 10);
     }
     let mut after = held.clone();
-    assert_eq!(apply(&mut after, &Call::Release { job: 0, page: 4 }), Answer::Released { node: 3, page: 4 });
+    assert_eq!(
+        apply(&mut after, &Call::Release { job: 0, page: 4 }),
+        Answer::Released { node: Some(AppNode(3)), page: 4 }
+    );
     assert_eq!(after.pages, vec![0, 2, 99, 255, 0, 1, 1, 1]);
-    for tables in bad_maps() {
+    for tables in bad_machines() {
         let mut tables = tables;
         tables.pages[0] = 1;
         tables.jobs[0] = 7;
         tables = tables.counted();
-        assert_eq!(apply(&mut tables, &Call::Release { job: 0, page: 0 }), Answer::Released { node: 0, page: 0 });
+        assert_eq!(
+            apply(&mut tables, &Call::Release { job: 0, page: 0 }),
+            Answer::Released { node: Some(AppNode(0)), page: 0 }
+        );
     }
 }
 
@@ -229,8 +236,10 @@ fn install_1_2_4() {
     let malformed = a_with(|t| t.jobs[0] = 7);
     refused(&malformed, 4, install(9, 9, 0, &[]), 4);
     refused(&malformed, 4, install(0, 0, 0, &[]), 4);
-    refused(&machine_a(), 3, install(0, 0, 0, &[]), 4);
-    for tables in [bad_pages(), bad_maps()].concat() {
+    // Node 3 is not one of three nodes: neither in a map nor, with a map that is good, in the allowed set.
+    refused(&machine_a(), 3, install(0, 0, 0, &[]), 15);
+    refused(&a_with(|t| t.maps = identity_maps(3, 8)), 3, install(0, 0, 0, &[]), 4);
+    for tables in [bad_pages(), bad_machines()].concat() {
         let mut tables = tables;
         assert_eq!(apply_with(4, &mut tables, &install(2, 0, 1, &[])), Answer::Done);
     }
@@ -299,8 +308,12 @@ fn install_6() {
         assert_eq!(apply(&mut tables, &install(mode, 2, 1 << 63, &[])), Answer::Done);
         assert_eq!(read(&tables.jobs, 0).effective, 0b0010);
     }
-    let mut tables = machine_a();
-    assert_eq!(apply(&mut tables, &install(5, 0, 0, &[255, 4, 200])), Answer::Done);
+    for places in [&[4][..], &[255], &[0, 1, 200], &[3; 16], &[0, 4, 0]] {
+        let far = places.iter().any(|place| *place > 3);
+        let mut tables = machine_a();
+        let answer = if far { Answer::Refused(6) } else { Answer::Done };
+        assert_eq!(apply(&mut tables, &install(5, 0, 0, places)), answer, "{places:?}");
+    }
 }
 
 #[test]
@@ -309,9 +322,9 @@ fn install_leaves_exactly_the_record() {
     tables.jobs[..6].copy_from_slice(&[0x0203_0005, 0, 0b0111, 0, 0x03_02_01, 0]);
     assert_eq!(apply(&mut tables, &install(3, 1, 0b1110, &[])), Answer::Done);
     assert_eq!(tables.jobs[..6], [0x0103, 0b1110, 0b0111, 0b0110, 0, 0]);
-    let places = [1, 2, 3, 4, 5, 6, 7, 8, 9, 10, 11, 12, 13, 14, 15, 16];
+    let places = [1, 2, 3, 0, 3, 2, 1, 0, 0, 0, 1, 1, 2, 2, 3, 3];
     assert_eq!(apply(&mut tables, &install(6, 0, 0, &places)), Answer::Done);
-    assert_eq!(tables.jobs[..6], [0x0010_0006, 0, 0b0111, 0, 0x0807_0605_0403_0201, 0x100F_0E0D_0C0B_0A09]);
+    assert_eq!(tables.jobs[..6], [0x0010_0006, 0, 0b0111, 0, 0x0001_0203_0003_0201, 0x0303_0202_0101_0000]);
     assert_eq!(apply(&mut tables, &install(1, 0, 0, &[])), Answer::Done);
     assert_eq!(tables.jobs[..6], [1, 0, 0b0111, 0, 0, 0]);
     assert_eq!(tables.jobs[6..], vec![0; 42]);
@@ -336,7 +349,7 @@ fn rebind_1_2_4_6_7() {
     refused(&machine_a(), 4, rebind(0), 7);
     let fresh = a_with(|t| t.jobs[2] = 0);
     refused(&fresh, 4, rebind(0), 7);
-    for tables in [bad_pages(), bad_maps()].concat() {
+    for tables in [bad_pages(), bad_machines()].concat() {
         let mut tables = tables;
         assert_eq!(apply_with(4, &mut tables, &rebind(1)), Answer::Done);
     }
@@ -373,6 +386,92 @@ fn clear_1_2_and_nothing_else() {
     assert_eq!(garbage.jobs[6..], [u64::MAX; 6]);
 }
 
+/// Maps not of 64 bytes a job (M-103).
+fn bad_lengths_of_maps() -> Vec<Tables> {
+    let lengths = [0, 1, 63, 64, 7 * 64, 8 * 64 - 1, 8 * 64 + 1, 9 * 64, 64 * 64];
+    lengths.into_iter().map(|length| Tables { maps: vec![0xFF; length], ..machine_a() }).collect()
+}
+
+/// Machine A, pages 0 and 1 held by job 0, with these bytes as job 0's map.
+fn a_mapped(bytes: &[u8]) -> Tables {
+    let mut tables = a_with(|t| t.pages = vec![1, 1, 0, 0, 0, 0]);
+    tables.maps[..64].copy_from_slice(&map_with(bytes));
+    tables
+}
+
+/// "in a further lent table of 64 bytes a job, else 1": in every call that is lent it, and in no other (M-103).
+#[test]
+fn maps_of_a_wrong_length_are_1() {
+    for tables in bad_lengths_of_maps() {
+        for job in [0, 999] {
+            refused(&tables, 4, Call::Request { job, cpu: 0 }, 1);
+            refused(&tables, 4, Call::Release { job, page: 0 }, 1);
+            refused(&tables, 4, Call::Install { job, mode: 9, flag: 9, mask: 0, places: vec![] }, 1);
+            refused(&tables, 4, Call::KeepNodes { job, kept: vec![0] }, 1);
+            refused(&tables, 4, Call::SetMap { job, list: vec![0] }, 1);
+        }
+        let mut tables = tables;
+        for call in [Call::Rebind { job: 0, allowed: 1 }, Call::Clear { job: 0 }, Call::Fresh] {
+            assert_eq!(apply(&mut tables, &call), Answer::Done);
+        }
+    }
+}
+
+/// "refused 15, right after 2 in request, release and install" (M-103); not in rebind and clear.
+#[test]
+fn bad_maps_are_15_right_after_2() {
+    for bytes in [&[][..], &[1, 1], &[0, 1, 0], &[4], &[0, 200], &[0, 0xFF, 1], &[0xFF, 0], &[0; 64]] {
+        let mut tables = a_mapped(bytes);
+        tables.jobs[0] = 7;
+        tables.free = vec![9; 4];
+        for cpu in [0, 999] {
+            refused(&tables, 4, Call::Request { job: 0, cpu }, 15);
+            refused(&tables, 4, Call::Request { job: 8, cpu }, 2);
+        }
+        for page in [0, 2, 999] {
+            refused(&tables, 4, Call::Release { job: 0, page }, 15);
+            refused(&tables, 4, Call::Release { job: 8, page }, 2);
+        }
+        refused(&tables, 4, install(9, 9, 0, &[]), 15);
+        refused(&tables, 4, Call::Install { job: 8, mode: 9, flag: 9, mask: 0, places: vec![] }, 2);
+        refused(&tables, 4, Call::KeepNodes { job: 0, kept: vec![0] }, 15);
+        refused(&tables, 4, Call::Rebind { job: 0, allowed: 1 }, 4);
+        assert_eq!(apply(&mut tables, &Call::Clear { job: 0 }), Answer::Done);
+        assert_eq!(tables.maps[..64], map_with(bytes));
+        assert_eq!(apply(&mut tables, &Call::SetMap { job: 0, list: vec![3, 0] }), Answer::Done);
+        assert_eq!(tables.maps[..64], map_with(&[3, 0]));
+        assert_eq!(tables.maps[64..], identity_maps(4, 7));
+    }
+}
+
+/// "The tenant's call may only drop nodes"; "Both test 1, 2, 15"; neither looks at the record (M-103).
+#[test]
+fn keep_nodes_and_set_map() {
+    let keep = |kept: &[u8]| Call::KeepNodes { job: 0, kept: kept.to_vec() };
+    let set = |list: &[u8]| Call::SetMap { job: 0, list: list.to_vec() };
+    let mut tables = a_mapped(&[3, 0, 2]);
+    tables.jobs[0] = 7;
+    for nodes in [0, 65, usize::MAX] {
+        refused(&tables, nodes, keep(&[0]), 1);
+        refused(&tables, nodes, set(&[0]), 1);
+    }
+    for tables in bad_job_tables() {
+        refused(&tables, 4, keep(&[0]), 1);
+        refused(&tables, 4, set(&[0]), 1);
+    }
+    // Node 3 of the map is unknown on a machine of three nodes.
+    refused(&tables, 3, keep(&[1]), 15);
+    refused(&tables, 3, set(&[3]), 15);
+    assert_eq!(apply(&mut tables, &keep(&[0, 2])), Answer::Done);
+    assert_eq!(tables.maps[..64], map_with(&[3, 2]));
+    refused(&tables, 4, keep(&[0, 2]), 15);
+    assert_eq!(apply(&mut tables, &keep(&[1])), Answer::Done);
+    assert_eq!(tables.maps[..64], map_with(&[2]));
+    assert_eq!(apply(&mut tables, &set(&[0, 1, 2, 3])), Answer::Done);
+    assert_eq!(tables.maps, identity_maps(4, 8));
+    assert_eq!(tables.jobs[0], 7);
+}
+
 #[test]
 fn the_longest_tables_are_accepted() {
     let mut tables = Tables {
@@ -382,14 +481,15 @@ fn the_longest_tables_are_accepted() {
         pages: vec![64; 1_048_576 + 5],
         jobs: vec![0; 64 * WORDS],
         free: vec![0; 16],
+        maps: identity_maps(16, 64),
     };
     tables.pages[1_048_575] = 0;
     tables.free[15] = 1;
     assert_eq!(apply(&mut tables, &Call::Rebind { job: 63, allowed: 0x8000 }), Answer::Done);
-    let granted = Answer::Granted { node: 15, page: 1_048_575 };
+    let granted = Answer::Granted { node: AppNode(15), page: 1_048_575 };
     assert_eq!(apply(&mut tables, &Call::Request { job: 63, cpu: 255 }), granted);
     assert_eq!(tables.pages[1_048_575..], [64; 6]);
-    let released = Answer::Released { node: 15, page: 1_048_575 };
+    let released = Answer::Released { node: Some(AppNode(15)), page: 1_048_575 };
     assert_eq!(apply(&mut tables, &Call::Release { job: 63, page: 1_048_575 }), released);
     refused(&tables, 16, Call::Release { job: 63, page: 1_048_576 }, 10);
 }

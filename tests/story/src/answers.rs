@@ -23,8 +23,17 @@ pub fn refusal_words(number: u8) -> &'static str {
         12 => "bad text",
         13 => "damaged journal",
         14 => "a free count disagrees with the page table",
+        15 => "the map, or the list of nodes, isn't a good one",
         _ => "a number that the papers do not have",
     }
+}
+
+/// An answer as told: its refusal, 0 for none, and its node and page; FF and FFFFFFFF where it names none.
+#[derive(Clone, Copy, Debug, PartialEq, Eq)]
+pub struct Reply {
+    pub refusal: u8,
+    pub node: u8,
+    pub page: u32,
 }
 
 /// The kind that answers a call: its record's own.
@@ -32,75 +41,107 @@ fn kind_of(call: &Call) -> u8 {
     call_bytes(call)[2]
 }
 
-/// The fields of an answer.
-struct Fields {
-    kind: u8,
-    refusal: u8,
-    node: u8,
-    page: u32,
-}
-
-/// The fields of twelve bytes; none if they are no answer.
-fn fields(bytes: &[u8]) -> Option<Fields> {
+/// The kind and the fields of twelve bytes; none if they are no answer.
+fn fields(bytes: &[u8]) -> Option<(u8, Reply)> {
     if bytes.len() != ANSWER || bytes[..2] != ANSWER_MARK || bytes[5..8] != [0, 0, 0] {
         return None;
     }
     let page = u32::from_le_bytes([bytes[8], bytes[9], bytes[10], bytes[11]]);
-    Some(Fields { kind: bytes[2], refusal: bytes[3], node: bytes[4], page })
+    Some((bytes[2], Reply { refusal: bytes[3], node: bytes[4], page }))
 }
 
 /// What an answer says of its call, entered in the page table.
-fn said(call: &Call, answer: &Fields, pages: &mut [u8]) -> Result<String, String> {
-    let nowhere = answer.node == 0xFF && answer.page == u32::MAX;
-    if answer.refusal != 0 {
+fn said(call: &Call, reply: Reply, pages: &mut [u8]) -> Result<String, String> {
+    let Reply { refusal, node, page } = reply;
+    let nowhere = node == 0xFF && page == u32::MAX;
+    if refusal != 0 {
         if !nowhere {
             return Err(String::from("a refusal that names no node and no page"));
         }
-        return Ok(format!("refused {}: {}", answer.refusal, refusal_words(answer.refusal)));
+        return Ok(format!("refused {refusal}: {}", refusal_words(refusal)));
     }
     let (byte, words) = match call {
-        Call::Request { job, .. } => (*job as u8 + 1, ""),
-        Call::Release { .. } => (0, " is free"),
+        Call::Request { job, .. } if node != 0xFF => (*job as u8 + 1, format!("node {node}, page {page}")),
+        Call::Request { .. } => return Err(String::from("a node of the job's map")),
+        Call::Release { .. } if node == 0xFF => (0, format!("page {page}, outside the map, is free")),
+        Call::Release { .. } => (0, format!("node {node}, page {page} is free")),
         _ if nowhere => return Ok(String::from("done")),
         _ => return Err(String::from("an answer that names no node and no page")),
     };
-    match pages.get_mut(answer.page as usize) {
-        Some(page) => *page = byte,
+    match pages.get_mut(page as usize) {
+        Some(held) => *held = byte,
         None => return Err(String::from("a page of this machine")),
     }
-    Ok(format!("node {}, page {}{words}", answer.node, answer.page))
+    Ok(words)
 }
 
-/// A line with its answer, and the nodes after it.
-fn told_line(line: &Line, wide: usize, answer: &str, nodes: &str) -> String {
-    format!("{:4}  {:wide$}  {nodes}  {answer}\n", line.number, line.text)
+/// The script told so far.
+struct Telling<'a> {
+    script: &'a Script,
+    wide: usize,
+    pages: Vec<u8>,
+    lines: String,
 }
 
-/// The script with its answers, line by line, and the nodes at the end.
+impl Telling<'_> {
+    fn new(script: &Script) -> Telling<'_> {
+        let wide = script.lines.iter().map(|line| line.text.len()).max().unwrap_or(0);
+        let lines = format!("machine {}\n", script.name).replace(" \n", "\n");
+        Telling { script, wide, pages: script.machine.pages.clone(), lines }
+    }
+
+    /// Adds a line with its answer, and the nodes after it.
+    fn line(&mut self, line: &Line, reply: Reply) -> Result<(), String> {
+        let answer = said(&line.call, reply, &mut self.pages)?;
+        let (wide, nodes) = (self.wide, strip(&self.script.machine.counts, &self.pages));
+        self.lines.push_str(&format!("{:4}  {:wide$}  {nodes}  {answer}\n", line.number, line.text));
+        Ok(())
+    }
+
+    /// All lines, and the nodes at the end.
+    fn end(self) -> String {
+        self.lines + &picture(&self.script.machine.counts, &self.pages)
+    }
+}
+
+/// What is wrong with an answer.
+fn wrong(index: usize, line: &Line, expected: &str) -> String {
+    format!("answer {index} (line {}): expected {expected}", line.number)
+}
+
+/// The script with the answers of a journal, line by line, and the nodes at the end.
 pub fn told(script: &Script, answers: &[u8]) -> Result<String, String> {
-    let machine = &script.machine;
-    let mut pages = machine.pages.clone();
-    let wide = script.lines.iter().map(|line| line.text.len()).max().unwrap_or(0);
-    let mut lines = format!("machine {}\n", script.name).replace(" \n", "\n");
+    let mut telling = Telling::new(script);
     let mut rest = answers.chunks(ANSWER);
     for (index, line) in script.lines.iter().enumerate() {
-        let wrong = |expected: &str| format!("answer {index} (line {}): expected {expected}", line.number);
+        let wrong = |expected: &str| wrong(index, line, expected);
         let bytes = rest.next().ok_or_else(|| wrong("an answer, found the end"))?;
-        let answer = fields(bytes).ok_or_else(|| wrong("twelve bytes 4E 41 kind refusal node 0 0 0 page"))?;
-        if answer.kind == BROKEN {
-            let words = refusal_words(answer.refusal);
-            lines.push_str(&format!("{:4}  the program stopped with {}: {words}\n", line.number, answer.refusal));
+        let (kind, reply) = fields(bytes).ok_or_else(|| wrong("twelve bytes 4E 41 kind refusal node 0 0 0 page"))?;
+        if kind == BROKEN {
+            let words = refusal_words(reply.refusal);
+            let stopped = format!("{:4}  the program stopped with {}: {words}\n", line.number, reply.refusal);
+            telling.lines.push_str(&stopped);
             break;
         }
-        if answer.kind != kind_of(&line.call) {
-            return Err(wrong(&format!("kind {}, found {}", kind_of(&line.call), answer.kind)));
+        if kind != kind_of(&line.call) {
+            return Err(wrong(&format!("kind {}, found {kind}", kind_of(&line.call))));
         }
-        let answer = said(&line.call, &answer, &mut pages).map_err(|expected| wrong(&expected))?;
-        lines.push_str(&told_line(line, wide, &answer, &strip(&machine.counts, &pages)));
+        telling.line(line, reply).map_err(|expected| wrong(&expected))?;
     }
     if rest.next().is_some() {
         return Err(String::from("expected no more answers than calls"));
     }
-    lines.push_str(&picture(&machine.counts, &pages));
-    Ok(lines)
+    Ok(telling.end())
+}
+
+/// The script with an answer for each of its lines, and the nodes at the end.
+pub fn told_replies(script: &Script, replies: &[Reply]) -> Result<String, String> {
+    let mut telling = Telling::new(script);
+    if script.lines.len() != replies.len() {
+        return Err(format!("expected {} answers, found {}", script.lines.len(), replies.len()));
+    }
+    for (index, (line, reply)) in script.lines.iter().zip(replies).enumerate() {
+        telling.line(line, *reply).map_err(|expected| wrong(index, line, &expected))?;
+    }
+    Ok(telling.end())
 }

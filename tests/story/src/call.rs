@@ -1,11 +1,13 @@
 //! One call of a script.
 
 use reference::calls::{Call, Tables};
+use reference::maps::{application_node, entries, map_of};
+use reference::masks::{has, with};
 use reference::record::{read, WORDS};
 use reference::text::read_nodes;
 
 /// What a line of calls begins with.
-const CALLS: &str = "`request`, `release`, `rebind`, `install` or `clear`";
+const CALLS: &str = "`request`, `release`, `rebind`, `install`, `clear`, `map` or `keep`";
 const MODES: &str = "a mode: `default`, `preferred`, `bind`, `interleave`, `list`, `ring` or `early`";
 
 /// A plain number up to a limit.
@@ -35,6 +37,22 @@ fn allowed_to(book: &Tables, job: usize) -> u64 {
     }
 }
 
+/// The nodes of the job's map by the book; all nodes for no job.
+fn numbers_of(book: &Tables, job: usize) -> Vec<u8> {
+    if job < book.jobs.len() / WORDS {
+        entries(map_of(&book.maps, job)).to_vec()
+    } else {
+        (0..book.counts.len()).map(|node| node as u8).collect()
+    }
+}
+
+/// The nodes that the job is allowed, by its own numbers; those outside its map have none.
+fn allowed_by_number(book: &Tables, job: usize) -> u64 {
+    let (allowed, numbers) = (allowed_to(book, job), numbers_of(book, job));
+    let numbered = (0..64).filter(|node| has(allowed, *node)).filter_map(|node| application_node(&numbers, node));
+    numbered.fold(0, |mask, node| with(mask, usize::from(node.0)))
+}
+
 /// A node list below a limit.
 fn nodes_of(word: &str, limit: usize, allowed: u64) -> Result<u64, String> {
     if word == "none" {
@@ -44,12 +62,25 @@ fn nodes_of(word: &str, limit: usize, allowed: u64) -> Result<u64, String> {
         .map_err(|_| format!("nodes below {limit} such as `0-3,5`, `!2`, `+0-1`, `all` or `none` in place of `{word}`"))
 }
 
-/// Places split by commas.
+/// Places or nodes split by commas.
+fn bytes_of(word: &str, what: &str) -> Result<Vec<u8>, String> {
+    let bytes: Option<Vec<u8>> = word.split(',').map(|byte| number(byte, 255).map(|byte| byte as u8)).collect();
+    match bytes {
+        Some(bytes) if bytes.len() <= 255 => Ok(bytes),
+        _ => Err(format!("{what} in place of `{word}`")),
+    }
+}
+
+/// Places of an install.
 fn places_of(word: &str) -> Result<Vec<u8>, String> {
-    let places: Option<Vec<u8>> = word.split(',').map(|place| number(place, 255).map(|place| place as u8)).collect();
-    match places {
-        Some(places) if places.len() <= 255 => Ok(places),
-        _ => Err(format!("places from 0 to 255 such as `3,3,1` in place of `{word}`")),
+    bytes_of(word, "places from 0 to 255 such as `3,3,1`")
+}
+
+/// The nodes of a map, or those kept of it.
+fn list_of(word: &str) -> Result<Vec<u8>, String> {
+    match word {
+        "none" => Ok(Vec::new()),
+        _ => bytes_of(word, "nodes from 0 to 255 such as `3,1`, or `none`,"),
     }
 }
 
@@ -68,11 +99,15 @@ pub fn read_call(words: &[&str], book: &Tables) -> Result<Call, String> {
             Ok(Call::Rebind { job, allowed: nodes_of(nodes, book.counts.len(), allowed_to(book, job))? })
         }
         ["clear", job] => Ok(Call::Clear { job: job_of(job)? }),
+        ["map", job, nodes] => Ok(Call::SetMap { job: job_of(job)?, list: list_of(nodes)? }),
+        ["keep", job, nodes] => Ok(Call::KeepNodes { job: job_of(job)?, kept: list_of(nodes)? }),
         ["install", job, policy @ ..] => read_install(job_of(job)?, policy, book),
         ["request", ..] => Err(String::from("`request JOB cpu CPU`")),
         ["release", ..] => Err(String::from("`release JOB page PAGE`")),
         ["rebind", ..] => Err(String::from("`rebind JOB NODES`")),
         ["clear", ..] => Err(String::from("`clear JOB`")),
+        ["map", ..] => Err(String::from("`map JOB NODES`")),
+        ["keep", ..] => Err(String::from("`keep JOB NODES`")),
         ["install"] => Err(String::from("`install JOB MODE` and what the mode carries")),
         _ => Err(String::from(CALLS)),
     }
@@ -102,9 +137,9 @@ fn read_install(job: usize, policy: &[&str], book: &Tables) -> Result<Call, Stri
     }
 }
 
-/// An install of a mode that carries a mask; a relative one has 64 bits.
+/// An install of a mode that carries a mask, by the job's own numbers; a relative one has 64 bits.
 fn masked(job: usize, mode: u64, flag: u64, nodes: &str, book: &Tables) -> Result<Call, String> {
-    let limit = if flag == 2 { 64 } else { book.counts.len() };
-    let mask = nodes_of(nodes, limit, allowed_to(book, job))?;
+    let limit = if flag == 2 { 64 } else { numbers_of(book, job).len() };
+    let mask = nodes_of(nodes, limit, allowed_by_number(book, job))?;
     Ok(Call::Install { job, mode, flag, mask, places: Vec::new() })
 }

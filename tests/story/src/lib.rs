@@ -1,4 +1,4 @@
-//! For people: scripts into journals, answers into lines, and a picture of the nodes.
+//! For people: scripts run by the library, or as journals; answers as lines, and a picture of the nodes.
 //!
 //! A script has one call a line, after the machine:
 //!
@@ -10,7 +10,9 @@
 //! distance 20 10 30 20
 //! distance 20 30 10 20
 //! distance 30 20 20 10
-//! rebind 0 0-3                    # job, node list
+//! rebind 0 0-3                    # job, node list: what it is allowed, by the machine's numbers
+//! map 0 3,1,0                     # the administrator: these nodes of the machine are the job's 0, 1, 2
+//! keep 0 0,2                      # the tenant: the job keeps its nodes 0 and 2, which become 0 and 1
 //! install 0 default               # default, or preferred alone: local
 //! install 0 interleave 1-3 static # preferred, bind, interleave: node list; static, relative or nothing
 //! install 0 ring 3,3,1            # list, ring, early: places
@@ -21,6 +23,8 @@
 //!
 //! Node lists are document 01's, `all` and `+` by what the job is allowed at
 //! that line; `none` is the empty set. A relative mask may name 0 to 63.
+//! The node numbers of `install` and `keep` and of answers are the job's own;
+//! until a `map` line they are the machine's. A journal has no `map` or `keep`.
 
 #![forbid(unsafe_code)]
 
@@ -28,4 +32,5 @@ pub mod answers;
 mod call;
 mod machine;
 pub mod picture;
+pub mod run;
 pub mod script;

@@ -2,6 +2,7 @@
 
 use reference::calls::Tables;
 use reference::journal::{JOBS, MOST_CPUS, MOST_NODES, MOST_PAGES};
+use reference::maps::identity_maps;
 use reference::record::WORDS;
 
 use crate::call::number;
@@ -39,7 +40,7 @@ impl<'a, I: Iterator<Item = Words<'a>>> Reader<'a, I> {
         }
     }
 
-    /// The machine: its name and its tables, all pages free and counted, all jobs fresh.
+    /// The machine: its name and its tables, all pages free and counted, all jobs fresh and numbering nodes as it does.
     pub fn machine(&mut self) -> Result<(String, Tables), Fault> {
         let name = self.line("machine", "`machine` and a name or nothing")?.words[1..].join(" ");
         let expected = format!("`pages` and the pages of 1 to {MOST_NODES} nodes, at most {MOST_PAGES} together");
@@ -56,8 +57,8 @@ impl<'a, I: Iterator<Item = Words<'a>>> Reader<'a, I> {
         let pages = vec![0; counts.iter().sum::<u64>() as usize];
         let counts: Vec<u32> = counts.into_iter().map(|count| count as u32).collect();
         let cpus = cpus.into_iter().map(|node| node as u8).collect();
-        let free = counts.clone();
-        Ok((name, Tables { counts, cpus, distances, pages, jobs: vec![0; JOBS * WORDS], free }))
+        let (free, maps) = (counts.clone(), identity_maps(nodes, JOBS));
+        Ok((name, Tables { counts, cpus, distances, pages, jobs: vec![0; JOBS * WORDS], free, maps }))
     }
 
     /// The distances from one node.

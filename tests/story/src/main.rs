@@ -1,19 +1,22 @@
-//! `story journal` and `story answers`: a placer's runs for people.
+//! `story run`, `story journal` and `story answers`: a placer's runs for people.
 
 use std::io::{Read, Write};
 use std::process::ExitCode;
 
 use story::answers::told;
+use story::run::run;
 use story::script::{journal, read_script, Script};
 
 const USAGE: &str = "usage:
-  story journal < SCRIPT > JOURNAL   a script as a journal
-  story answers SCRIPT < ANSWERS     the script with its answers, and the nodes as they fill up";
+  story run SCRIPT                   the script run by the library, with its answers, and the nodes as they fill up
+  story journal < SCRIPT > JOURNAL   a script without `map` and `keep` as a journal
+  story answers SCRIPT < ANSWERS     the script with a journal's answers, and the nodes as they fill up";
 
 fn main() -> ExitCode {
     let arguments: Vec<String> = std::env::args().skip(1).collect();
     let words: Vec<&str> = arguments.iter().map(String::as_str).collect();
     let output = match words.as_slice() {
+        ["run", script] => run_script(script),
         ["journal"] => make_journal(),
         ["answers", script] => tell(script),
         _ => Err(String::from(USAGE)),
@@ -43,13 +46,22 @@ fn script_in(bytes: Vec<u8>) -> Result<Script, String> {
     read_script(&text).map_err(|fault| fault.to_string())
 }
 
+/// The script in a file.
+fn script_at(path: &str) -> Result<Script, String> {
+    script_in(std::fs::read(path).map_err(|error| format!("{path}: {error}"))?)
+}
+
+/// `story run SCRIPT`.
+fn run_script(path: &str) -> Result<Vec<u8>, String> {
+    run(&script_at(path)?).map(String::into_bytes)
+}
+
 /// `story journal`.
 fn make_journal() -> Result<Vec<u8>, String> {
-    Ok(journal(&script_in(standard_input()?)?))
+    journal(&script_in(standard_input()?)?).map_err(|fault| fault.to_string())
 }
 
 /// `story answers SCRIPT`.
 fn tell(path: &str) -> Result<Vec<u8>, String> {
-    let script = std::fs::read(path).map_err(|error| format!("{path}: {error}"))?;
-    told(&script_in(script)?, &standard_input()?).map(String::into_bytes)
+    told(&script_at(path)?, &standard_input()?).map(String::into_bytes)
 }

@@ -70,7 +70,7 @@ fn lines_of(script: &str) -> Vec<Words<'_>> {
     lines
 }
 
-/// Reads a script. A book kept by the rules says what each job is allowed.
+/// Reads a script. A book kept by the rules says what each job is allowed, and its map.
 pub fn read_script(text: &str) -> Result<Script, Fault> {
     let end = Fault { line: text.lines().count() + 1, expected: String::new(), found: String::from("the end") };
     let mut reader = Reader { lines: lines_of(text).into_iter(), end };
@@ -85,11 +85,15 @@ pub fn read_script(text: &str) -> Result<Script, Fault> {
     Ok(Script { name, machine, lines: read })
 }
 
-/// The journal of a script.
-pub fn journal(script: &Script) -> Vec<u8> {
+/// The journal of a script, which may have no call of maps.
+pub fn journal(script: &Script) -> Result<Vec<u8>, Fault> {
     let mut bytes = machine_bytes(&script.machine);
     for line in &script.lines {
+        if line.call.is_of_maps() {
+            let expected = String::from("a call that a journal has (`story run` takes every script)");
+            return Err(Fault { line: line.number, expected, found: format!("`{}`", line.text) });
+        }
         bytes.extend(call_bytes(&line.call));
     }
-    bytes
+    Ok(bytes)
 }

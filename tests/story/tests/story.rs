@@ -3,9 +3,9 @@
 use std::io::Write;
 use std::process::{Command, Stdio};
 
-use reference::calls::Call;
+use reference::calls::{apply, Answer, Call};
 use reference::journal::{read_journal, run};
-use story::answers::told;
+use story::answers::{told, told_replies, Reply};
 use story::script::{journal, read_script};
 
 const MACHINE_A: &str = "machine A
@@ -25,7 +25,7 @@ fn on_a(lines: &str) -> String {
 /// The calls of a script, by its journal.
 fn calls(lines: &str) -> Vec<Call> {
     let script = read_script(&on_a(lines)).unwrap();
-    let (machine, calls) = read_journal(&journal(&script)).unwrap();
+    let (machine, calls) = read_journal(&journal(&script).unwrap()).unwrap();
     assert_eq!(machine, script.machine);
     assert_eq!(calls, script.lines.into_iter().map(|line| line.call).collect::<Vec<Call>>());
     calls
@@ -34,13 +34,30 @@ fn calls(lines: &str) -> Vec<Call> {
 /// The script told with the answers that the rules give.
 fn story(script: &str) -> String {
     let script = read_script(script).unwrap();
-    told(&script, &run(&journal(&script))).unwrap()
+    told(&script, &run(&journal(&script).unwrap())).unwrap()
+}
+
+/// The script told with the answers that the rules give, call by call.
+fn by_the_rules(script: &str) -> String {
+    let script = read_script(script).unwrap();
+    let mut tables = script.machine.clone();
+    let mut replies = Vec::new();
+    for line in &script.lines {
+        let (refusal, node, page) = match apply(&mut tables, &line.call) {
+            Answer::Granted { node, page } => (0, node.0, page),
+            Answer::Released { node, page } => (0, node.map_or(0xFF, |node| node.0), page),
+            Answer::Done => (0, 0xFF, u32::MAX),
+            Answer::Refused(number) => (number, 0xFF, u32::MAX),
+        };
+        replies.push(Reply { refusal, node, page });
+    }
+    told_replies(&script, &replies).unwrap()
 }
 
 #[test]
 fn the_journal_of_document_01() {
     let script = read_script(&on_a("rebind 0 0-3\nrequest 0 cpu 0\n")).unwrap();
-    let bytes = journal(&script);
+    let bytes = journal(&script).unwrap();
     assert_eq!(bytes[..6], [0x4E, 0x50, 0, 4, 8, 0]);
     assert_eq!(bytes.len(), 6 + 8 + 8 + 16 + 64);
     let answers =
@@ -93,7 +110,13 @@ const LISTS: &str = "such as `0-3,5`, `!2`, `+0-1`, `all` or `none` in place of"
 #[test]
 fn bad_lines_say_where_and_what() {
     for (line, expected) in [
-        ("ask 0", "`request`, `release`, `rebind`, `install` or `clear`"),
+        ("ask 0", "`request`, `release`, `rebind`, `install`, `clear`, `map` or `keep`"),
+        ("map 0", "`map JOB NODES`"),
+        ("map 0 3 1", "`map JOB NODES`"),
+        ("keep 0", "`keep JOB NODES`"),
+        ("map 0 0-3", "nodes from 0 to 255 such as `3,1`, or `none`, in place of `0-3`"),
+        ("keep 0 1,256", "nodes from 0 to 255 such as `3,1`, or `none`, in place of `1,256`"),
+        ("map 256 0", "a job from 0 to 255 in place of `256`"),
         ("request 0 4", "`request JOB cpu CPU`"),
         ("request 256 cpu 0", "a job from 0 to 255 in place of `256`"),
         ("request 0 cpu -1", "a CPU from 0 to 255 in place of `-1`"),
@@ -140,7 +163,59 @@ fn bad_machines_say_where_and_what() {
 
 #[test]
 fn the_story_of_three_tenants() {
-    assert_eq!(story(include_str!("../scripts/rent.txt")), include_str!("../scripts/rent.told.txt"));
+    let (script, told) = (include_str!("../scripts/rent.txt"), include_str!("../scripts/rent.told.txt"));
+    assert_eq!(story(script), told);
+    assert_eq!(by_the_rules(script), told);
+    assert_eq!(story::run::run(&read_script(script).unwrap()).unwrap(), told);
+}
+
+#[test]
+fn the_story_of_two_tenants_with_maps() {
+    let (script, told) = (include_str!("../scripts/maps.txt"), include_str!("../scripts/maps.told.txt"));
+    assert_eq!(by_the_rules(script), told);
+    let script = read_script(script).unwrap();
+    assert_eq!(story::run::run(&script).unwrap(), told);
+    let no_record = "line 12: expected a call that a journal has (`story run` takes every script), found `map 0 3,0,1`";
+    assert_eq!(journal(&script).unwrap_err().to_string(), no_record);
+}
+
+/// Lists of an install go by the job's own numbers: below its map's end, `all` and `+` by what it is allowed of the map.
+#[test]
+fn node_numbers_are_the_jobs_own_once_it_has_a_map() {
+    let lines = "map 0 1\nrebind 1 0-2\nmap 1 3,2,0\ninstall 1 bind all\ninstall 1 bind +1\ninstall 1 bind !2\n\
+        install 1 ring 2,3\ninstall 1 bind 40 relative\nkeep 1 1\ninstall 1 bind all\nmap 255 none\n\
+        keep 255 7,255\ninstall 255 bind 3\n";
+    let script = read_script(&on_a(lines)).unwrap();
+    let install = |mode, flag, mask, places: &[u8]| Call::Install { job: 1, mode, flag, mask, places: places.to_vec() };
+    let expected = vec![
+        Call::SetMap { job: 0, list: vec![1] },
+        Call::Rebind { job: 1, allowed: 0b0111 },
+        Call::SetMap { job: 1, list: vec![3, 2, 0] },
+        install(2, 0, 0b110, &[]),
+        install(2, 0, 0b100, &[]),
+        install(2, 0, 0b011, &[]),
+        install(5, 0, 0, &[2, 3]),
+        install(2, 2, 1 << 40, &[]),
+        Call::KeepNodes { job: 1, kept: vec![1] },
+        install(2, 0, 0b001, &[]),
+        Call::SetMap { job: 255, list: vec![] },
+        Call::KeepNodes { job: 255, kept: vec![7, 255] },
+        Call::Install { job: 255, mode: 2, flag: 0, mask: 0b1000, places: vec![] },
+    ];
+    assert_eq!(script.lines.into_iter().map(|line| line.call).collect::<Vec<Call>>(), expected);
+    let fault = read_script(&on_a("rebind 1 0-2\nmap 1 3,2\ninstall 1 bind 2\n")).unwrap_err();
+    assert_eq!(fault.to_string(), format!("line 10: expected nodes below 2 {LISTS} `2`, found `install 1 bind 2`"));
+}
+
+#[test]
+fn bad_replies_say_where_and_what() {
+    let script = read_script(&on_a("rebind 0 0-3\nrequest 0 cpu 0\n")).unwrap();
+    let done = Reply { refusal: 0, node: 0xFF, page: u32::MAX };
+    let message = |reply| told_replies(&script, &[done, reply]).unwrap_err();
+    assert_eq!(told_replies(&script, &[done]).unwrap_err(), "expected 2 answers, found 1");
+    assert_eq!(message(done), "answer 1 (line 9): expected a node of the job's map");
+    let far = Reply { refusal: 0, node: 0, page: 6 };
+    assert_eq!(message(far), "answer 1 (line 9): expected a page of this machine");
 }
 
 #[test]
@@ -172,7 +247,7 @@ fn the_examples_of_document_01() {
 #[test]
 fn bad_answers_say_where_and_what() {
     let script = read_script(&on_a("rebind 0 0-3\nrequest 0 cpu 0\n")).unwrap();
-    let good = run(&journal(&script));
+    let good = run(&journal(&script).unwrap());
     let changed = |index: usize, byte: u8| {
         let mut bytes = good.clone();
         bytes[index] = byte;
@@ -216,6 +291,16 @@ fn the_program() {
     let (good, lines, _) = program(&["answers", path], &run(&journal));
     assert!(good);
     assert_eq!(lines, include_bytes!("../scripts/rent.told.txt"));
+    let (good, lines, _) = program(&["run", path], b"");
+    assert!(good);
+    assert_eq!(lines, include_bytes!("../scripts/rent.told.txt"));
+    let maps = concat!(env!("CARGO_MANIFEST_DIR"), "/scripts/maps.txt");
+    let (good, lines, _) = program(&["run", maps], b"");
+    assert!(good);
+    assert_eq!(lines, include_bytes!("../scripts/maps.told.txt"));
+    let (good, nothing, message) = program(&["journal"], include_bytes!("../scripts/maps.txt"));
+    assert!(!good && nothing.is_empty());
+    assert!(message.starts_with("line 12: expected a call that a journal has"), "{message}");
     let (good, nothing, message) = program(&["journal"], b"machine\npages x\n");
     assert!(!good && nothing.is_empty());
     assert!(message.starts_with("line 2: expected `pages`"), "{message}");

@@ -1,4 +1,4 @@
--- `run_all` runs all records on free pages, their counts and fresh jobs, as one part of an input that has ended.
+-- `run_all` runs all records on free pages, their counts, fresh jobs and their maps, as one part of an input that has ended.
 -- Assumes nothing.
 use Prim.Native.Nat.{ℕ, _≤_}
 use mathlib.Core.Path.{_≡_, sym}
@@ -46,13 +46,15 @@ lent : (c : tie.After-page-counts) → Cut (bytes c) (c .before .byte-at .result
 lent c = cut (bytes c) (c .page-counts .result) (good (start (counted c)) .counted) (c .before .byte-at .ensures .0) (search needs) (c .page-counts .ensures)
 
 -- the tables are those of the start
-tables : (c : tie.After-page-counts) → let n = c .before in let jobs = n .before in let total = counted c .total-pages .result in
-    tablesOf (take total (jobs .before .free-pages .result)) (jobs .fresh-jobs .result) (take (n .byte-at .result) (c .page-counts .result))
-    ≡ startOf (machineIn (bytes c))
+tables : (c : tie.After-identity-maps) → let free = c .before in let n = free .before in let jobs = n .before in
+    let total = counted free .total-pages .result in
+    tablesOf (take total (jobs .before .free-pages .result)) (jobs .fresh-jobs .result) (take (n .byte-at .result) (free .page-counts .result))
+    (c .identity-maps .result) ≡ startOf (machineIn (bytes free))
 tables c =
-    let jobs = c .before .before in
-    start-lent (machineIn (bytes c)) (jobs .before .free-pages .ensures) (jobs .fresh-jobs .ensures) (lent c .counts)
-    (counted c .total-pages .ensures) (good (start (counted c)) .few-pages)
+    let free = c .before in
+    let jobs = free .before .before in
+    start-lent (machineIn (bytes free)) (jobs .before .free-pages .ensures) (jobs .fresh-jobs .ensures) (lent free .counts)
+    (c .identity-maps .ensures) (lent free .nodes) (counted free .total-pages .ensures) (good (start (counted free)) .few-pages)
 
 -- there are enough of them
 total : (c : tie.After-page-counts) → let n = counted c .total-pages .result in let pages = c .before .before .before .free-pages .result in
@@ -68,23 +70,36 @@ total c =
 whole : (c : tie.After-page-counts) → let m = machineIn (bytes c) in journal (bytes c) ≡ runOf m (startOf m) (drop (start (counted c) .args .size) (bytes c))
 whole c = journal-opened (bytes c) (start (counted c) .pre .0)
 
+-- N is at most 16
+few-nodes : tie.Need-identity-maps-requires
+few-nodes c κs = omega (arith, lent c .long, lent c .few)
+
+-- where the free counts are made, from where the maps are lent
+abbrev free : tie.After-maps → tie.After-page-counts
+free c = c .before .before .before .before .before
+
 byte-at-requires : tie.Need-byte-at-requires
 byte-at-requires c κs = let s = start (c .before .before) in omega (arith, head-in (s .args .input .now) (good s .whole))
 
+run-part-requires : tie.Need-run-part-requires
+run-part-requires c κs =
+    let made = c .before .before .before .before .before .before in
+    start-ok (bytes (made .before)) (start (counted (made .before)) .pre .0) (tables made)
+
 returns : tie.Need-returns
 returns c =
-    let r = c .before .before .before .before .before in
-    let made = r .before .before .before .before .before .before in
-    let s = start (counted made) in
-    let did = rw (tables made, rest-lent (bytes made) (s .args .size)) at (r .run-part .ensures) in
-    rw (whole made) (all-done _ _ _ _ (rw (whole made) at (s .pre .1)) did)
+    let r = c .before .before .before .before .before .before in
+    let made = r .before .before .before .before .before .before .before in
+    let free = made .before in
+    let s = start (counted free) in
+    let did = rw (tables made, rest-lent (bytes free) (s .args .size)) at (r .run-part .ensures) in
+    rw (whole free) (all-done _ _ _ _ (rw (whole free) at (s .pre .1)) did)
 
 pub run-all-spec : {M : Type 1} → statement M
 run-all-spec =
     tie.close
     (tie.spec (λ c κs. let g = good (c .before .before) in (g .counted, g .whole)) (search needs) (search needs) byte-at-requires
-    (λ c κs. let g = good (start (c .before .before .before)) in (g .counted, g .whole)) (λ c. total c .0) (λ c. total (c .before) .1)
-    (search needs) (λ c. lent (c .before .before) .inside) (λ c. lent (c .before .before .before) .long)
-    (λ c. inside (c .before .before .before)) (λ c. let i = inside (c .before .before .before) in search needs) (search needs)
-    (λ c κs. let m = c .before .before .before .before .before in start-ok (bytes m) (start (counted m) .pre .0) (tables m))
-    (search needs) returns)
+    (λ c κs. let g = good (start (c .before .before .before)) in (g .counted, g .whole)) few-nodes
+    (λ c. total (c .before) .0) (λ c. total (c .before .before) .1) (search needs) (λ c. lent (c .before .before .before) .inside)
+    (λ c. lent (c .before .before .before .before) .long) (search needs) (λ c. inside (free c))
+    (λ c. let i = inside (free c) in search needs) (search needs) run-part-requires (search needs) returns)

@@ -6,7 +6,6 @@ use native.Mathlib.Omega.{arith}
 use borrow.Author.Needs.{needs}
 use lib.ListN.{length, replicate}
 use lib.Seq.{length-take-le}
-use Rattle.rules.specs.Basics.{sum}
 use Rattle.rules.specs.Calls.{withPages}
 use Rattle.rules.proofs.InOrder.{PagesInOrder, pages-in-order}
 use Rattle.rules.proofs.AsBefore.{fresh-is}

@@ -8,20 +8,21 @@ use lib.Dec.{leb}
 use lib.ListN.{length}
 use Rattle.rules.specs.Basics.{all}
 use Rattle.rules.specs.Machine.{nodesOk}
-use Rattle.rules.specs.Calls.{Tables, tablesOf, freshTablesOk, releaseTablesOk, applied, releaseDecision, onRelease}
+use Rattle.rules.specs.Calls.{Tables, tablesOf, mapOf, freshTablesOk, releaseTablesOk, applied, releaseDecision, onRelease}
 use Rattle.rules.proofs.Kept.{nodes-few}
 use Rattle.rules.proofs.Lists.{both-true}
 use Rattle.machine.proofs.Tables.{counts-tested}
 use Rattle.placement.proofs.InOrder.{release-tested}
+use Rattle.placement.proofs.Requests.{release-map}
 use Rattle.placement.proofs.release.Statement.{statement}
 use Rattle.placement.proofs.release.Tie as tie
 
 -- the call, from the place after the test of the counts; the tables
 abbrev call : tie.After-counts-ok → tie.Start
-call c = c .before .before .before .before .before
+call c = c .before .before .before .before .before .before
 
 abbrev tables : tie.Start → Tables
-tables s = tablesOf (s .args .pages .now) (s .args .jobs .now) (s .args .free .now)
+tables s = tablesOf (s .args .pages .now) (s .args .jobs .now) (s .args .free .now) (s .args .maps .now)
 
 -- a page count breaks the rules
 returns : tie.Need-returns
@@ -52,11 +53,27 @@ returns-2 : tie.Need-returns-2
 unfolding onRelease releaseDecision applied
 returns-2 c = rw (sym (tested (c .before .before)) ∙ not-true _ (c .if2 .taken))
 
+-- all tables are in order
+in-order-all : (c : tie.Else2) → let s = call (c .before .before .before .before .before) in releaseTablesOk (s .args .counts .now) (tables s) ≡ true
+in-order-all c = sym (tested (c .before .before)) ∙ not-false _ (c .if2 .left)
+
 release-located-requires : tie.Need-release-located-requires
 release-located-requires c κs =
     let known = c .before .before in
     let found = known .before .before .before .locate .ensures in
-    (sym (tested (known .before .before)) ∙ not-false _ (known .if2 .left), found .1, λ l. found .0)
+    (in-order-all known, found .1, λ l. found .0)
+
+tell-requires : tie.Need-tell-requires
+tell-requires c κs =
+    let placed = c .before .before .before .before in
+    let known = placed .before .before .before in
+    let s = call (known .before .before .before .before .before) in
+    release-map _ (tables s) (s .args .job) (s .args .page) (mapOf (tables s) (s .args .job)) (placed .release-located .result) (in-order-all known)
+    (placed .release-located .ensures .0)
+
+returns-3 : tie.Need-returns-3
+unfolding mapOf
+returns-3 c = rw (c .tell .ensures) (c .before .before .before .before .before .release-located .ensures .0)
 
 pub release-spec : {M : Type 1} → statement M
 release-spec =
@@ -68,5 +85,6 @@ release-spec =
     (search needs)
     returns-2
     release-located-requires
+    tell-requires
     (search needs) (search needs)
-    (λ c. search needs))
+    returns-3)

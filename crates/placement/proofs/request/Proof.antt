@@ -5,23 +5,24 @@ use mathlib.Core.Bool.{true}
 use borrow.Author.Needs.{needs}
 use borrow.Author.Tests.{not-true, not-false}
 use Rattle.rules.specs.Machine.{Machine, machineOk}
-use Rattle.rules.specs.Calls.{Tables, tablesOf, requestTablesOk, applied, admitted, requestDecision, onRequest}
+use Rattle.rules.specs.Calls.{Tables, tablesOf, mapOf, requestTablesOk, applied, admitted, requestDecision, onRequest}
 use Rattle.rules.proofs.Machine.{in-order}
 use Rattle.machine.specs.Tables.{machineOf}
 use Rattle.placement.proofs.InOrder.{request-tested}
 use Rattle.placement.proofs.Hints.{starts-hint}
+use Rattle.placement.proofs.Requests.{request-map}
 use Rattle.placement.proofs.request.Statement.{statement}
 use Rattle.placement.proofs.request.Tie as tie
 
 -- the call, from the place after the machine's test; the machine and the tables
 abbrev call : tie.After-machine-ok → tie.Start
-call c = c .before .before .before .before .before .before .before
+call c = let lent = c .before .before .before in lent .before .before .before .before .before
 
 abbrev machine : tie.Start → Machine
 machine s = machineOf (s .args .counts .now) (s .args .cpus .now) (s .args .distances .now)
 
 abbrev tables : tie.Start → Tables
-tables s = tablesOf (s .args .pages .now) (s .args .jobs .now) (s .args .free .now)
+tables s = tablesOf (s .args .pages .now) (s .args .jobs .now) (s .args .free .now) (s .args .maps .now)
 
 -- the machine breaks the rules
 returns : tie.Need-returns
@@ -53,11 +54,31 @@ returns-2 : tie.Need-returns-2
 unfolding onRequest requestDecision admitted applied
 returns-2 c = rw (sym (tested (c .before)) ∙ not-true _ (c .if2 .taken))
 
+-- all tables are in order
+in-order-all : (c : tie.Else2) → let s = call (c .before .before .before .before .before .before) in requestTablesOk (machine s) (tables s) ≡ true
+in-order-all c = sym (tested (c .before)) ∙ not-false _ (c .if2 .left)
+
 request-at-requires : tie.Need-request-at-requires
 request-at-requires c κs =
     let known = c .before .before .before .before .before in
     let made = known .before .before .before .before .starts-of .ensures in
-    (sym (tested (known .before)) ∙ not-false _ (known .if2 .left), made, starts-hint _ made)
+    (in-order-all known, made, starts-hint _ made)
+
+-- what was placed, and the tables before it
+abbrev did : tie.After-request-at → tie.Else2
+did c = c .before .before .before .before .before .before
+
+tell-requires : tie.Need-tell-requires
+tell-requires c κs =
+    let placed = c .before .before .before .before .before .before in
+    let known = did placed in
+    let s = call (known .before .before .before .before .before .before) in
+    request-map (machine s) (tables s) (s .args .job) (s .args .cpu) (mapOf (tables s) (s .args .job)) (placed .request-at .result) (in-order-all known)
+    (placed .request-at .ensures .0)
+
+returns-3 : tie.Need-returns-3
+unfolding mapOf
+returns-3 c = let placed = c .before .before .before .before .before .before .before in rw (c .tell .ensures) (placed .request-at .ensures .0)
 
 pub request-spec : {M : Type 1} → statement M
 request-spec =
@@ -70,5 +91,6 @@ request-spec =
     (search needs)
     returns-2
     request-at-requires
+    tell-requires
     (search needs) (search needs) (search needs)
-    (λ c. search needs))
+    returns-3)

@@ -5,7 +5,7 @@ use borrow.Author.Needs.{needs}
 use borrow.Author.Tests.{ltb-true}
 use Rattle.rules.specs.Machine.{Machine}
 use Rattle.rules.specs.Decisions.{accept}
-use Rattle.rules.specs.Calls.{Tables, tablesOf, admitted}
+use Rattle.rules.specs.Calls.{Tables, tablesOf, admitted, limitOf}
 use Rattle.rules.proofs.Admission.{Passes}
 use Rattle.records.specs.Jobs.{recordOf}
 use Rattle.machine.specs.Tables.{machineOf}
@@ -18,17 +18,21 @@ abbrev machine : tie.Start → Machine
 machine s = machineOf (s .args .counts .now) (s .args .cpus .now) (s .args .distances .now)
 
 abbrev tables : tie.Start → Tables
-tables s = tablesOf (s .args .pages .now) (s .args .jobs .now) (s .args .free .now)
+tables s = tablesOf (s .args .pages .now) (s .args .jobs .now) (s .args .free .now) (s .args .maps .now)
 
 -- the call, from the place after the tests
 abbrev call : tie.After-admit → tie.Start
-call c = let lent = c .before .before .before .before in lent .before .before .before .before .before .before
+call c = let lent = c .before .before .before .before in lent .before .before .before .before .before .before .before
 
 -- the tests are passed
 passed : (c : tie.After-admission) →
     let s = call (c .before .before) in
     accept (recordOf (c .admission .given .0 .0)) ≡ admitted (machine s) (tables s) (s .args .job) (s .args .cpu)
-passed c = rw (c .admission .given .1) at (c .before .before .admit .ensures)
+passed c = rw (c .admission .given .1) at (c .before .before .admit .ensures .0)
+
+-- the set that the search is limited to is the one of the rules
+limited : (c : tie.After-admission) → let s = call (c .before .before) in c .admission .given .0 .1 .0 .0 ≡ limitOf (tables s) (s .args .job)
+limited c = rw (c .admission .given .1) at (c .before .before .admit .ensures .1)
 
 passes : (c : tie.After-admission) → let s = call (c .before .before) in Passes (machine s) (tables s) (s .args .job) (s .args .cpu)
 passes c = let-through _ _ _ _ (passed c) .0
@@ -38,7 +42,7 @@ unfolding recordOf
 serve-requires c κs =
     let there = c .before .before .before .before .before in
     let s = call (there .before .before) in
-    searchable (machine s) (tables s) (s .args .job) (s .args .cpu) (let-through _ _ _ _ (passed there)) (s .pre .1) (s .pre .2)
+    searchable (machine s) (tables s) (s .args .job) (s .args .cpu) (limited there) (let-through _ _ _ _ (passed there)) (s .pre .1) (s .pre .2)
 
 -- the search serves
 returns : tie.Need-returns
@@ -46,21 +50,23 @@ unfolding recordOf
 returns c =
     let done = c .before .before .before .before .before .before in
     let there = done .before .before .before .before .before .before in
-    let s = call (there .before .before) in
-    request-served (machine s) (tables s) (s .args .job) (s .args .cpu) (passed there) (done .serve .ensures)
+    let s = call (there .before .before) in (
+      request-served (machine s) (tables s) (s .args .job) (s .args .cpu) (passed there) (limited there) (done .serve .ensures .0 (s .args .maps .now)),
+      done .serve .ensures .1,
+    )
 
 -- a test refuses
 returns-2 : tie.Need-returns-2
 returns-2 c =
     let tested = c .before .before .before in
     let s = call tested in
-    request-refused (machine s) (tables s) (s .args .job) (s .args .cpu) (rw (c .before .admission2 .given .1) at (tested .admit .ensures))
+    (request-refused (machine s) (tables s) (s .args .job) (s .args .cpu) (rw (c .before .admission2 .given .1) at (tested .admit .ensures .0)), tt)
 
 pub request-at-spec : {M : Type 1} → statement M
 request-at-spec =
     tie.close
     (tie.spec
-    (λ c κs. let lent = c .before .before .before in lent .before .before .before .before .before .before .pre .0)
+    (λ c κs. let lent = c .before .before .before in lent .before .before .before .before .before .before .before .pre .0)
     (search needs)
     (λ c. ltb-true _ _ (passes (c .before .before) .cpu))
     serve-requires

@@ -1,5 +1,6 @@
 -- `serve` meets its contract: the search of the job's order, then the grant by the node that it chooses.
 -- Assumes nothing.
+use Prim.Native.Nat.{ℕ}
 use mathlib.Core.Path.{_≡_, sym, ap, _∙_}
 use mathlib.Core.List.{List}
 use mathlib.Core.Option.{Option}
@@ -15,10 +16,10 @@ use Rattle.placement.proofs.serve.Tie as tie
 
 -- the call, from the place after the record is decoded
 abbrev call : tie.After-job → tie.Start
-call c = c .before .before .before .before .before .before .before
+call c = c .before .before .before .before .before .before
 
-abbrev tables : tie.Start → Tables
-tables s = tablesOf (s .args .pages .now) (s .args .jobs .now) (s .args .free .now)
+abbrev tables : tie.Start → List ℕ → Tables
+tables s maps = tablesOf (s .args .pages .now) (s .args .jobs .now) (s .args .free .now) maps
 
 -- the decoded job is the record
 decoded : (c : tie.After-job) → jobOf (c .job .result) ≡ recordOf (call c .args .loaded)
@@ -27,8 +28,8 @@ decoded c = c .job .ensures _ (call c .pre .3 .plannable .formed)
 -- the job's order, and the try that is chosen of it
 abbrev tries : tie.Start → List Try
 tries s =
-    order (length (s .args .counts .now)) (s .args .distances .now) (s .args .loaded .allowed .0)
-    (plan (s .args .loaded .allowed .0) (recordOf (s .args .loaded)) (s .args .x .0))
+    order (length (s .args .counts .now)) (s .args .distances .now) (s .args .limit .0)
+    (plan (s .args .limit .0) (recordOf (s .args .loaded)) (s .args .x .0))
 
 found : (c : tie.After-search) → let s = call (c .before .before) in chosenBy (c .search .result) ≡ chosen (s .args .free .now) (tries s)
 found c = let s = call (c .before .before) in rw (sym (s .pre .2), ← decoded (c .before .before)) (c .search .ensures)
@@ -44,8 +45,8 @@ grant-node-requires c κs =
     (s .pre .0, s .pre .1, chose _ _ (tries s) _ (s .pre .2) (rw (taken .chosen .given .1) at (found looked)), s .pre .4)
 
 -- what the rules serve by a choice
-abbrev by : tie.Start → Option Try → Outcome
-by s o = applied (tables s) (serve (s .args .counts .now) (tables s) (s .args .job) o)
+abbrev by : tie.Start → List ℕ → Option Try → Outcome
+by s maps o = applied (tables s maps) (serve (s .args .counts .now) (tables s maps) (s .args .job) o)
 
 -- a node is chosen
 returns : tie.Need-returns
@@ -54,14 +55,15 @@ returns c =
     let taken = granted .before .before .before .before .before in
     let looked = taken .before .before in
     let s = call (looked .before .before) in
-    granted .grant-node .ensures ∙ ap (by s) (rw (taken .chosen .given .1) at (found looked))
+    let did = granted .grant-node .ensures in
+    (λ maps. did .0 maps ∙ ap (by s maps) (rw (taken .chosen .given .1) at (found looked)), did .1)
 
 -- none is
 returns-2 : tie.Need-returns-2
 unfolding applied serve
 returns-2 c =
     let looked = c .before .before in
-    ap (by (call (looked .before .before))) (rw (c .enum-told .given .1) at (found looked))
+    (λ maps. ap (by (call (looked .before .before)) maps) (rw (c .enum-told .given .1) at (found looked)), tt)
 
 pub serve-spec : {M : Type 1} → statement M
 serve-spec =

@@ -4,7 +4,7 @@ use mathlib.Core.Bool.{true}
 use mathlib.Core.Path.{_≡_, sym, _∙_}
 use borrow.Author.Needs.{needs}
 use borrow.Author.Tests.{ltb-true, not-true, not-false}
-use Rattle.rules.specs.Calls.{isJob, afterWrites, afterStores, applied, clearDecision, onClear}
+use Rattle.rules.specs.Calls.{isJob, afterWrites, afterStores, afterRemaps, applied, clearDecision, onClear}
 use Rattle.records.proofs.clear_at.Statement.{statement}
 use Rattle.records.proofs.clear_at.Tie as tie
 
@@ -17,7 +17,7 @@ unfolding applied clearDecision onClear
 returns c t = rw (c .before .before .before .pre, sym (c .before .has-job .ensures) ∙ not-true _ (c .if1 .taken))
 
 returns-2 : tie.Need-returns-2
-unfolding afterWrites afterStores applied clearDecision onClear
+unfolding afterWrites afterStores afterRemaps applied clearDecision onClear
 returns-2 c t =
     let store = c .before .before in
     let made = store .before .before in

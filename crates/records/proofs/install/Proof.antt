@@ -11,7 +11,7 @@ returns-2 : tie.Need-returns-2
 returns-2 c t =
     let at = c .before .before in
     let first = sym (at .before .before .padded .ensures) in
-    at .install-at .ensures t _ (record { mode = refl; flag = refl; user = refl; len = refl; places = first })
+    at .install-at .ensures t _ (record { same-mode = refl; same-flag = refl; same-user = refl; same-len = refl; same-places = first })
 
 pub install-spec : {M : Type 1} → statement M
 unfolding applied onInstall installDecision
@@ -19,8 +19,8 @@ install-spec =
     tie.close
     (tie.spec
     (search needs)
-    (λ c t. rw (sym (c .before .tables-ok .ensures) ∙ not-true _ (c .if1 .taken)))
+    (λ c t. rw (sym (c .before .mapped-ok .ensures) ∙ not-true _ (c .if1 .taken)))
     (search needs)
-    (λ c κs. sym (c .before .before .before .tables-ok .ensures) ∙ not-false _ (c .before .before .if1 .left))
+    (λ c κs. sym (c .before .before .before .mapped-ok .ensures) ∙ not-false _ (c .before .before .if1 .left))
     (search needs)
     returns-2)

@@ -1,114 +1,86 @@
--- `install_at` stores a policy in a record.
+-- `install_at` installs for a job whose map is good.
 -- Assumes nothing.
-use mathlib.Core.Bool.{true, not}
+use Prim.Native.Nat.{ℕ, _+_, _*_, _≤_}
+use mathlib.Core.Bool.{true}
 use mathlib.Core.List.{List}
-use Prim.Native.Nat.{ℕ}
-use mathlib.Core.Path.{_≡_, sym, ap, _∙_}
+use mathlib.Core.Path.{_≡_, sym, subst, _∙_}
 use borrow.Author.Needs.{needs}
 use borrow.Author.Tests.{ltb-true, not-true, not-false}
-use lib.ListN.{length, replicate, length-replicate}
-use Rattle.rules.specs.Calls.{isJob, afterWrites, afterStores, applied, installDecision, onInstall}
-use Rattle.rules.proofs.WellFormed.{some-pos}
-use Rattle.records.specs.Jobs.{recordOf, asked}
-use Rattle.records.proofs.Judged.{installTests, install-judged, asks-for, small-policy}
+use lib.ListN.{length}
+use Rattle.rules.specs.Maps.{mapSize, mapBytes}
+use Rattle.rules.specs.Calls.{withJobs, mapOf, isJob, isMapped, applied, installDecision, onInstall}
+use Rattle.rules.proofs.InOrder.{mapped-map}
+use Rattle.rules.proofs.Kept.{mapped-nodes}
+use Rattle.rules.proofs.Maps.{map-long}
+use Rattle.maps.specs.Judging.{Judges}
+use Rattle.records.proofs.Judged.{judged-good, judged-bad, install-judged}
 use Rattle.records.proofs.install_at.Statement.{statement}
 use Rattle.records.proofs.install_at.Tie as tie
+
+-- ---- the places in the code, from one to the one before
+
+abbrev start : tie.Else1 → tie.Start
+start c = c .before .before .before .before
+
+abbrev there : tie.After-judge → tie.Else1
+there c = c .before .before
+
+abbrev judging : tie.After-known-told → tie.After-judge
+judging c = c .before .before .before
 
 -- ---- the tests that have passed, at the place after each
 
 -- the job is there
-found : (c : tie.Else1) → let a = c .before .before .before .args in isJob (a .jobs .now) (a .job) ≡ true
+found : (c : tie.Else1) → let a = start c .args in isJob (a .jobs .now) (a .job) ≡ true
 found c = sym (c .before .has-job .ensures) ∙ not-false _ (c .if1 .left)
 
--- its record is read and well formed: what is left to test
-judged : (c : tie.Else2) (ps : List ℕ) → let a = c .before .before .before .before .before .before .before .args in
-    installDecision (a .nodes) (a .jobs .now) (a .job) (asked (a .policy) ps)
-    ≡ installTests (a .nodes) (a .job) (recordOf (c .before .before .load .result)) (asked (a .policy) ps)
-judged c ps =
-    let there = c .before .before .before .before in
-    install-judged _ _ _ (there .before .before .before .pre) (found there) (c .before .before .load .ensures)
-    (sym (c .before .well-formed .ensures) ∙ not-false _ (c .if2 .left)) _
+-- and has its bytes in the map table
+in-table : (c : tie.Else1) → let a = start c .args in mapSize * a .job + mapSize ≤ length (a .maps .now)
+in-table c =
+    let s = start c in
+    mapped-map (s .args .nodes) (length (s .args .jobs .now)) (length (s .args .maps .now)) (s .args .job) (s .pre) (found c)
+
+-- its map is judged
+told : (c : tie.After-judge) → let a = start (there c) .args in Judges (a .nodes) (mapBytes (a .maps .now) (a .job)) (c .judge .result)
+told c =
+    let a = start (there c) .args in
+    subst (λ (bytes : List ℕ). Judges (a .nodes) bytes (c .judge .result)) (c .before .of-job .ensures) (c .judge .ensures)
 
 returns : tie.Need-returns
 unfolding applied installDecision onInstall
-returns c t p a = rw (c .before .before .before .pre, sym (c .before .has-job .ensures) ∙ not-true _ (c .if1 .taken))
+returns c t p a = rw (c .before .before .before .before .pre, sym (c .before .has-job .ensures) ∙ not-true _ (c .if1 .taken))
+
+judge-requires : tie.Need-judge-requires
+judge-requires c κs =
+    let s = start (c .before) in
+    let few = mapped-nodes _ (length (s .args .jobs .now)) (length (s .args .maps .now)) (s .pre) in
+    (few .0, few .1, rw (c .of-job .ensures) (map-long _ _ (in-table (c .before))))
+
+install-mapped-requires : tie.Need-install-mapped-requires
+install-mapped-requires c κs =
+    let judge = judging (c .before) in
+    let s = start (there judge) in
+    let good = judged-good _ _ (judge .judge .ensures) (c .before .before .judged .given .1) in
+    (ltb-true _ _ (found (there judge)), mapped-nodes _ (length (s .args .jobs .now)) (length (s .args .maps .now)) (s .pre) .1, good .0, good .1)
 
 returns-2 : tie.Need-returns-2
-unfolding applied installDecision onInstall
+unfolding mapOf isMapped onInstall
 returns-2 c t p a =
-    let there = c .before .before .before .before in
-    rw (
-      there .before .before .before .pre,
-      found there,
-      sym (c .before .before .load .ensures),
-      sym (c .before .well-formed .ensures) ∙ not-true _ (c .if2 .taken),
-    )
+    let mapped = c .before .before in
+    let judge = judging (mapped .before .before) in
+    let job = there judge in
+    let s = start job in
+    let old = withJobs t (s .args .jobs .now) (s .args .maps .now) in
+    let good = judged-good _ _ (told judge) (mapped .before .before .before .judged .given .1) .0 in
+    rw (install-judged (s .args .nodes) old (s .args .job) (s .pre) (found job) good p, sym (judge .before .of-job .ensures))
+    (mapped .install-mapped .ensures old p a)
 
 returns-3 : tie.Need-returns-3
-unfolding applied onInstall
+unfolding isMapped applied installDecision onInstall
 returns-3 c t p a =
-    rw (asks-for a, judged (c .before .before) (p .places), sym (c .before .known .ensures (p .places)) ∙ not-true _ (c .if3 .taken))
-
-returns-4 : tie.Need-returns-4
-unfolding applied onInstall recordOf
-returns-4 c t p a =
-    let known = c .before .before .before in
-    rw (
-      asks-for a,
-      judged (known .before .before) (p .places),
-      sym (known .before .known .ensures (p .places)) ∙ not-false _ (known .if3 .left),
-      sym (c .before .is-empty .ensures) ∙ c .if4 .taken,
-    )
-
-returns-5 : tie.Need-returns-5
-unfolding applied onInstall recordOf
-returns-5 c t p a =
-    let some = c .before .before in
-    let known = some .before .before .before in
-    rw (
-      asks-for a,
-      judged (known .before .before) (p .places),
-      sym (known .before .known .ensures (p .places)) ∙ not-false _ (known .if3 .left),
-      sym (some .before .is-empty .ensures) ∙ some .if4 .left,
-      sym (c .before .fits2 .ensures (p .places) (a .len)) ∙ not-true _ (c .if5 .taken),
-    )
-
-installed-requires : tie.Need-installed-requires
-installed-requires c κs =
-    let fits = c .before in
-    let some = fits .before .before in
-    let known = some .before .before .before in
-    let read = known .before .before in
-    let args = read .before .before .before .before .before .before .before .args in
-    let zeros : List ℕ = replicate (args .policy .len) 0 in
-    let count : length zeros ≡ args .policy .len = length-replicate (args .policy .len) 0 in
-    let small =
-    small-policy (args .nodes) _ (asked (args .policy) zeros) (sym (known .before .known .ensures zeros) ∙ not-false _ (known .if3 .left))
-    (sym (fits .before .fits2 .ensures zeros count) ∙ not-false _ (fits .if5 .left)) in
-    (some-pos _ (ap not (sym (some .before .is-empty .ensures) ∙ some .if4 .left)), small .0, small .1, rw count at (small .2))
-
-store-requires : tie.Need-store-requires
-store-requires c κs =
-    let some = c .before .before .before .before in
-    let read = some .before .before .before .before .before in
-    ltb-true _ _ (found (read .before .before .before .before))
-
-returns-6 : tie.Need-returns-6
-unfolding afterWrites afterStores applied onInstall recordOf
-returns-6 c t p a =
-    let new = c .before .before .before in
-    let fits = new .before .before in
-    let some = fits .before .before in
-    let known = some .before .before .before in
-    rw (
-      c .before .before .store .ensures,
-      new .installed .ensures p a,
-      asks-for a,
-      judged (known .before .before) (p .places),
-      sym (known .before .known .ensures (p .places)) ∙ not-false _ (known .if3 .left),
-      sym (some .before .is-empty .ensures) ∙ some .if4 .left,
-      sym (fits .before .fits2 .ensures (p .places) (a .len)) ∙ not-false _ (fits .if5 .left),
-    )
+    let judge = c .before .before in
+    let job = there judge in
+    rw (start job .pre, found job, judged-bad _ _ (told judge) (c .enum-told .given .1))
 
 pub install-at-spec : {M : Type 1} → statement M
 install-at-spec =
@@ -116,16 +88,10 @@ install-at-spec =
     (tie.spec
     (search needs)
     returns
-    (λ c κs. ltb-true _ _ (found (c .before)))
+    (λ c κs. in-table c)
+    judge-requires
+    (search needs)
+    install-mapped-requires
     (search needs) (search needs)
     returns-2
-    (search needs) (search needs)
-    returns-3
-    (search needs) (search needs)
-    returns-4
-    (search needs) (search needs)
-    returns-5
-    installed-requires
-    store-requires
-    (search needs)
-    returns-6)
+    returns-3)

@@ -6,7 +6,7 @@ use borrow.Author.Needs.{needs}
 use borrow.Author.Tests.{ltb-true, not-true, not-false}
 use lib.Dec.{eqb}
 use Rattle.rules.specs.Records.{rebound}
-use Rattle.rules.specs.Calls.{isJob, rebindFits, afterWrites, afterStores, applied, rebindDecision, onRebind}
+use Rattle.rules.specs.Calls.{isJob, rebindFits, afterWrites, afterStores, afterRemaps, applied, rebindDecision, onRebind}
 use Rattle.rules.proofs.WellFormed.{some-pos}
 use Rattle.records.specs.Jobs.{recordOf}
 use Rattle.records.proofs.Judged.{rebindTests, rebind-judged}
@@ -94,7 +94,7 @@ store-requires c κs =
     ltb-true _ _ (found (read .before .before .before .before))
 
 returns-6 : tie.Need-returns-6
-unfolding afterWrites afterStores applied onRebind
+unfolding afterWrites afterStores afterRemaps applied onRebind
 returns-6 c t =
     let fits = c .before .before .before .before in
     let new = fits .before .before .before .before in

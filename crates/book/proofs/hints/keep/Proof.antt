@@ -1,20 +1,19 @@
--- `hints::keep` meets its contract, answer by answer.
+-- `hints::keep` meets its contract, case by case.
 -- Assumes nothing.
 use native.Mathlib.Omega.{arith}
 use borrow.Author.Needs.{needs}
 use borrow.Author.Tests.{lt-ltb, le-ltb}
-use Rattle.rules.specs.Answers.{answerOf}
-use Rattle.rules.specs.declared.Answer.the-variants.{Granted, Released}
+use Rattle.placement.specs.declared.placed.Placed.the-variants.{Granted, Released}
 use Rattle.placement.specs.Hints.{Named}
 use Rattle.book.proofs.hints.keep.Statement.{statement}
 use Rattle.book.proofs.hints.keep.Tie as tie
 
--- the node and the page that the answer names, told apart
-granted : (c : tie.After-answer) → Named (answerOf (Granted (c .answer .given .0 .0) (c .answer .given .0 .1 .0)))
-granted c = rw (c .answer .given .1) at (c .before .before .pre)
+-- the node and the page, told apart
+granted : (c : tie.After-placed) → Named (Granted (c .placed .given .0 .0) (c .placed .given .0 .1 .0))
+granted c = rw (c .placed .given .1) at (c .before .before .pre)
 
-released : (c : tie.After-answer2) → Named (answerOf (Released (c .answer2 .given .0 .0) (c .answer2 .given .0 .1 .0)))
-released c = rw (c .answer2 .given .1) at (c .before .before .pre)
+released : (c : tie.After-placed2) → Named (Released (c .placed2 .given .0 .0) (c .placed2 .given .0 .1 .0))
+released c = rw (c .placed2 .given .1) at (c .before .before .pre)
 
 add-hints : tie.Need-add-hints
 add-hints c = let f = granted (c .before .before) .1 in omega (arith, f)
@@ -29,13 +28,13 @@ element-write-hints-2 : tie.Need-element-write-hints-2
 element-write-hints-2 c = let f = released (c .before .before .before .before .before) .0 in omega (arith, f)
 
 returns : tie.Need-returns
-returns c = rw (c .before .before .before .answer .given .1)
+returns c = rw (c .before .before .before .placed .given .1)
 
 returns-2 : tie.Need-returns-2
-returns-2 c = rw (c .before .before .before .before .before .answer2 .given .1, lt-ltb _ _ (c .if1 .taken))
+returns-2 c = rw (c .before .before .before .before .before .placed2 .given .1, lt-ltb _ _ (c .if1 .taken))
 
 returns-3 : tie.Need-returns-3
-returns-3 c = rw (c .before .before .before .before .before .answer2 .given .1, le-ltb _ _ (c .if1 .left))
+returns-3 c = rw (c .before .before .before .before .before .placed2 .given .1, le-ltb _ _ (c .if1 .left))
 
 pub keep-spec : {M : Type 1} → statement M
 keep-spec =
@@ -49,9 +48,8 @@ keep-spec =
     element-copy-out-if1
     (search needs)
     element-write-hints-2
-    (search needs) (search needs)
+    (search needs)
     returns
     returns-2
     returns-3
-    (λ c. rw (c .enum-told .given .1))
-    (λ c. rw (c .enum-told2 .given .1)))
+    (λ c. rw (c .enum-told .given .1)))

@@ -4,7 +4,7 @@ use mathlib.Core.Path.{_≡_, subst}
 use Prim.Native.Nat.{_-_, _≤_}
 use borrow.Author.Needs.{needs}
 use native.Mathlib.Omega.{arith}
-use Rattle.rules.specs.declared.Node.{Node}
+use Rattle.rules.specs.declared.SysNode.{SysNode}
 use Rattle.nodelist.specs.declared.writer.NextRun.the-variants.{Run as Span}
 use Rattle.nodelist.specs.Writer.{FirstFrom}
 use Rattle.nodelist.proofs.Runs.{no-run-past}
@@ -25,7 +25,7 @@ next-run-requires : tie.Need-next-run-requires Inv-loop μ-loop
 next-run-requires c κs = omega arith
 
 -- what is known of a run that is found
-first-run : (c : tie.After-next-run Inv-loop μ-loop) (low high : Node) → c .next-run .result ≡ Span low high
+first-run : (c : tie.After-next-run Inv-loop μ-loop) (low high : SysNode) → c .next-run .result ≡ Span low high
     → FirstFrom (c .before .before .before .args .mask .0) (c .before .before .loop .at) (Span low high)
 first-run c low high e = subst (FirstFrom (c .before .before .before .args .mask .0) (c .before .before .loop .at)) e (c .next-run .ensures)
 

@@ -16,15 +16,15 @@ use Rattle.placer.proofs.part.answer_there.Statement.{statement}
 use Rattle.placer.proofs.part.answer_there.Tie as tie
 
 -- the start, from where the tables are lent and from the part
-abbrev lent : tie.After-slice-known5 → tie.Start
-lent c = c .before .before .before .before .before .before
+abbrev lent : tie.After-slice-known6 → tie.Start
+lent c = c .before .before .before .before .before .before .before
 
 abbrev start : tie.After-run-part → tie.Start
-start c = lent (c .before .before .before .before .before .before)
+start c = lent (c .before .before .before .before .before .before .before)
 
 -- the part, from where the tables are back and from what the rest of the code does
-abbrev back : tie.After-slice-known9 → tie.After-run-part
-back c = c .before .before .before .before .before .before .before .before
+abbrev back : tie.After-slice-known11 → tie.After-run-part
+back c = let maps = c .before .before in maps .before .before .before .before .before .before .before .before
 
 abbrev part : tie.After-keep-arg → tie.After-run-part
 part c = back (c .before .before .before)
@@ -36,11 +36,11 @@ read c =
     omega (arith, read-within _ _ _ _ _ (c .run-part .ensures), length-take-le (s .args .there) (s .args .input .now) (s .pre .1))
 
 -- the answers lie within the output
-written : (c : tie.After-run-part) → c .run-part .result .written ≤ length (c .run-part .last .1 .1 .1 .1 .1 .1 .0)
+written : (c : tie.After-run-part) → c .run-part .result .written ≤ length (c .run-part .last .1 .1 .1 .1 .1 .1 .1 .0)
 written c = written-within _ _ _ _ _ (c .run-part .ensures)
 
 slice-aggregate-run-part : tie.Need-slice-aggregate-run-part
-slice-aggregate-run-part c = let s = lent (c .before .before .before .before) in sym (length-take-le (s .args .there) _ (s .pre .1))
+slice-aggregate-run-part c = let s = lent (c .before .before .before .before .before) in sym (length-take-le (s .args .there) _ (s .pre .1))
 
 slice-aggregate-write-all : tie.Need-slice-aggregate-write-all
 slice-aggregate-write-all c = let r = back (c .before) in sym (length-take-le (r .run-part .result .written) _ (written r))
@@ -69,5 +69,5 @@ answer-there-spec =
     tie.close
     (tie.spec (search needs) slice-aggregate-run-part (λ c κs. search needs) (λ c. written (back c)) slice-aggregate-write-all (search needs)
     (λ c. read (part c)) keep-requires (λ c. read (part (c .before .before .before .before .before))) (search needs) (search needs)
-    (search needs) (search needs) (search needs) returns (search needs) (search needs) (search needs) (search needs) (search needs)
-    returns-2)
+    (search needs) (search needs) (search needs) (search needs) returns (search needs) (search needs) (search needs) (search needs)
+    (search needs) (search needs) returns-2)

@@ -5,7 +5,7 @@ use mathlib.Core.List.{_++_}
 use mathlib.Core.Path.{_≡_, refl}
 use native.Mathlib.Omega.{arith}
 use borrow.Author.Needs.{needs}
-use Rattle.records.proofs.Filled.{filled}
+use Rattle.rules.proofs.Filled.{filled}
 use Rattle.records.proofs.Shifts.{half, unpack-step, unpacked}
 use Rattle.records.proofs.words.unpack.Statement.{statement}
 use Rattle.records.proofs.words.unpack.Tie as tie

@@ -25,7 +25,7 @@ returns c p a =
     let number = made .before .of .ensures (small-flag (s .args .policy .flag) (s .pre .2)) in
     let have = sixteen s in
     let stored = packed (s .args .policy .places) _ _ (have .0) (λ k. have .1 k .fits) (c .before .pack .ensures) (c .pack2 .ensures) in
-    rw (a .mode, a .flag, a .user, a .len, a .places, made .effective .ensures, number, stored)
+    rw (a .same-mode, a .same-flag, a .same-user, a .same-len, a .same-places, made .effective .ensures, number, stored)
 
 pub installed-spec : {M : Type 1} → statement M
 installed-spec =

@@ -3,7 +3,7 @@
 use crate::search::lowest_free;
 
 /// The machine, and where each node's pages begin.
-pub struct Map<'a> {
+pub struct Machine<'a> {
     pub nodes: usize,
     pub cpus: &'a [u8],
     distances: &'a [u8],
@@ -50,8 +50,8 @@ pub fn node_of(starts: &Starts, nodes: usize, page: usize) -> usize {
     starts[1..=nodes].iter().filter(|end| **end as usize <= page).count()
 }
 
-impl<'a> Map<'a> {
-    /// Tests all tables but the free counts.
+impl<'a> Machine<'a> {
+    /// Tests all tables but the free counts and the maps.
     pub fn new(
         starts: &'a mut Starts,
         counts: &[u32],
@@ -59,11 +59,11 @@ impl<'a> Map<'a> {
         distances: &'a [u8],
         pages: usize,
         jobs: usize,
-    ) -> Option<Map<'a>> {
+    ) -> Option<Machine<'a>> {
         let nodes = counts.len();
         let counts_ok = find_starts(starts, counts, pages);
         let all_ok = counts_ok && cpus_ok(nodes, cpus) && distances_ok(nodes, distances) && jobs_ok(jobs);
-        all_ok.then_some(Map { nodes, cpus, distances, starts })
+        all_ok.then_some(Machine { nodes, cpus, distances, starts })
     }
 
     /// The nearest of these nodes in row x that can be reached, the lowest of those as near.

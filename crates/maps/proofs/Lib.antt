@@ -1,0 +1,5 @@
+pub mod NodeSets
+pub mod GoodMaps
+pub mod FilledUp
+pub mod MapNodes
+pub mod Keeping

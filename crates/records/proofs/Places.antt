@@ -1,0 +1,47 @@
+-- The places of a policy that is asked for: the first sixteen are at hand, and zeros past their end.
+-- Assumes nothing.
+use Prim.Native.Nat.{ℕ, _≤_, _<_}
+use mathlib.Core.Path.{_≡_, sym, _∙_}
+use mathlib.Core.Bool.{false, _&&_, _||_, cond}
+use mathlib.Core.List.{List, _++_, map}
+use borrow.Author.Tests.{le-leb, lt-leb}
+use lib.Dec.{leb, ltb, eqb}
+use lib.ListN.{length, take, replicate, length-map}
+use lib.Seq.{take-take, take-append-seam}
+use Rattle.rules.specs.Basics.{all}
+use Rattle.rules.specs.Masks.{below}
+use Rattle.rules.specs.Records.{placesPerJob, Policy}
+use Rattle.rules.specs.Maps.{systemNode, systemMask, turned, withinMap}
+use Rattle.records.specs.Jobs.{Numbers}
+
+module _ {mode flag user len : ℕ} {places : List ℕ} {p : Policy} (a : Numbers mode flag user len places p) where
+  -- at most sixteen places are all at hand
+  pub all-places : len ≤ placesPerJob → take len places ≡ p .places
+  all-places few =
+      let h : length (p .places) ≤ placesPerJob = rw (a .same-len) few in
+      rw (sym (a .same-len), sym (a .same-places))
+      (take-take (length (p .places)) placesPerJob (p .places ++ replicate placesPerJob 0) h ∙ take-append-seam (p .places) (replicate placesPerJob 0))
+
+  -- every number that is asked for has an entry in a map, as the code tests it
+  pub within-asked : (nodes : List ℕ) (entries : ℕ) → len ≤ placesPerJob → entries ≡ length nodes
+      → ((eqb flag 2 || below entries user) && all (λ k. ltb k entries) (take len places)) ≡ (leb (length (p .places)) placesPerJob && withinMap nodes p)
+  unfolding withinMap
+  within-asked nodes entries few e =
+      rw (e, all-places few, a .same-flag, a .same-user, le-leb (length (p .places)) placesPerJob (rw (a .same-len) few))
+
+  -- more than sixteen places are refused
+  pub too-many : (nodes : List ℕ) → placesPerJob < len → false ≡ (leb (length (p .places)) placesPerJob && withinMap nodes p)
+  too-many nodes l = rw (lt-leb (length (p .places)) placesPerJob (rw (a .same-len) l))
+
+  -- the policy in system nodes, by its numbers
+  pub turned-stands : (nodes : List ℕ) (mask : ℕ) (out : List ℕ) → len ≤ placesPerJob → mask ≡ cond (eqb flag 2) user (systemMask nodes user)
+      → out ≡ take placesPerJob (map (systemNode nodes) (take len places) ++ replicate placesPerJob 0)
+      → Numbers mode flag mask len out (turned nodes p)
+  unfolding turned
+  turned-stands nodes mask out few m o = record {
+    same-mode = a .same-mode;
+    same-flag = a .same-flag;
+    same-user = rw (a .same-flag, a .same-user) (sym m);
+    same-len = length-map (p .places) (systemNode nodes) ∙ a .same-len;
+    same-places = rw (sym (all-places few)) (sym o);
+  }
