@@ -6,7 +6,7 @@ use crate::hints::{First, Hints};
 use crate::machine::{find_starts, jobs_ok, node_of, Machine, Starts};
 use crate::maps::{keep, maps_ok, set, JobMap, Maps};
 use crate::masks::{below, folded, remapped};
-use crate::record::Record;
+use crate::record::{closes, Record};
 
 /// Refusal (0 for none), node and page; 255 and 0xFFFFFFFF where there is none.
 #[derive(Clone, Copy, Debug, PartialEq, Eq)]
@@ -75,8 +75,11 @@ fn choose<const KEPT: bool>(
         0 | 1 => near(limit, home, cursor),
         mode => {
             let first = if mode == 6 { free.place(record, limit, 0).map(|node| (0, node)) } else { None };
-            let (place, node) = first.or_else(|| free.round(record, limit, cursor))?;
-            Some((node, if mode == 4 { 0 } else { place + 1 }))
+            match first.or_else(|| free.round(record, limit, cursor)) {
+                Some((place, node)) => Some((node, if mode == 4 { 0 } else { place + 1 })),
+                None if record.closes() => near(limit, home, 0),
+                None => None,
+            }
         }
     }
 }
@@ -142,7 +145,8 @@ pub fn install_at(
         return refused(7);
     }
     let user = if flag == 2 { Some(mask) } else { map.mask(mask) };
-    let (Some(user), Some(places)) = (user, map.places(length.min(16), places)) else { return refused(6) };
+    let named = length.min(16) - u64::from(closes(mode, length, places));
+    let (Some(user), Some(places)) = (user, map.places(named, places)) else { return refused(6) };
     let misses = flag != 2 && user != 0 && user & allowed == 0;
     let empty = mode > 1 && masked && mask == 0;
     let list = if mode > 3 { length == 0 || length > 16 } else { length != 0 };

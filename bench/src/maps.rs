@@ -61,7 +61,7 @@ impl<'a> JobMap<'a> {
         Some(turned)
     }
 
-    /// The machine's nodes of the first places, zeros past them; none if one is past the end.
+    /// The machine's nodes of the first places, the bytes past them as they are; none if one is past the map's end.
     pub fn places(self, length: u64, places: u128) -> Option<u128> {
         let mut bytes = places.to_le_bytes();
         for byte in bytes.iter_mut().take(length as usize) {

@@ -2,6 +2,11 @@
 
 use crate::masks::{below, folded};
 
+/// Is the last place of a list in mode 4 a 255, which no map turns?
+pub fn closes(mode: u64, length: u64, places: u128) -> bool {
+    mode == 4 && (1..=16).contains(&length) && (places >> (8 * (length - 1))) as u8 == 255
+}
+
 /// A well-formed record.
 #[derive(Clone, Copy)]
 pub struct Record<'a>(&'a [u64; 6]);
@@ -48,6 +53,11 @@ impl<'a> Record<'a> {
     /// The byte of a place below 16.
     pub fn place(self, place: usize) -> u8 {
         (self.0[4 + (place >> 3 & 1)] >> (8 * (place & 7))) as u8
+    }
+
+    /// Does the list end in a 255 that stands for the nodes near the CPU's?
+    pub fn closes(self) -> bool {
+        closes(self.mode(), self.length(), u128::from(self.0[4]) | u128::from(self.0[5]) << 64)
     }
 
     /// The most that the cursor field may hold.

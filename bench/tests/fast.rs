@@ -1,5 +1,5 @@
-//! The careful Rust implementation against the second implementation, with free counts that match and with wrong ones, and
-//! with maps good and bad.
+//! The careful Rust implementation against the second implementation, with free counts that match and with wrong ones, with
+//! maps good and bad, and with closing 255s.
 
 use std::collections::BTreeMap;
 
@@ -7,6 +7,7 @@ use bench::fast;
 use bench::ways::{fast_call, words_of};
 use bench::works::{works, Work};
 use reference::calls::{apply, apply_with, Answer, Call, Tables};
+use reference::closing::Closings;
 use reference::generate::{case, journal_parts, list, put_counts, tables, Case, Dice, SORTS_OF_COUNTS};
 use reference::map_cases::{put_map, wrong_length, SORTS};
 use reference::maps::identity_maps;
@@ -95,17 +96,19 @@ fn single_calls_agree() {
 
 #[test]
 fn runs_of_calls_agree() {
-    let mut seen = Seen::default();
+    let (mut seen, mut closings) = (Seen::default(), Closings::default());
     for seed in 0..120 {
         let (nodes, start, calls) = tables(seed, 40);
         same(&format!("tables {seed}"), nodes, start, &calls, &mut seen);
         for (start, calls) in [list(seed, 150), journal_parts(seed, 150)] {
+            closings.enter_list(&start, &calls);
             for start in counts_of_every_sort(seed, &start) {
                 same(&format!("list {seed}"), start.counts.len(), start, &calls, &mut seen);
             }
         }
     }
     seen.all_of_every_call();
+    assert!(closings.each_at_least(20), "{closings:?}");
 }
 
 /// Replays calls by the careful Rust.

@@ -1,5 +1,5 @@
-/* Rents out machine A of document 01 to one job, as ring {3,3,1}, then to a tenant that numbers its nodes from 0: prints each
- * answer.
+/* Rents out machine A of document 01 to one job, as ring {3,3,1}, then to a tenant that numbers its nodes from 0, and loads a
+ * program that names its memory: prints each answer.
  *
  *   rt staticlib spirerivet
  *   gcc -std=c11 hosts/c/rent.c target/staticlib/libspirerivet.a -o rent && ./rent | diff hosts/c/expected.txt -
@@ -24,6 +24,7 @@ static uint8_t pages[PAGES];
 static uint64_t jobs[JOBS * SPIRE_JOB_WORDS];
 static uint32_t free_counts[NODES];
 static uint8_t maps[JOBS * SPIRE_MAP_BYTES];
+static const char names[] = "DRAM0\0SRAM\0FLASH\0DRAM1"; /* of each node; its own zero ends the last */
 
 static struct spire_answer request(size_t job, size_t cpu)
 {
@@ -37,11 +38,16 @@ static struct spire_answer release(size_t job, size_t page)
                          maps, sizeof maps, job, page);
 }
 
-/* Turns over places, by the job's own numbers. */
+/* A policy of places, by the job's own numbers, or none. */
+static struct spire_answer install(size_t job, enum spire_mode mode, const uint8_t *places, size_t length)
+{
+    return spire_install(NODES, jobs, JOBS * SPIRE_JOB_WORDS, maps, sizeof maps, job, (uint64_t)mode, SPIRE_PLAIN, 0,
+                         places, length);
+}
+
 static struct spire_answer ring(size_t job, const uint8_t *places, size_t length)
 {
-    return spire_install(NODES, jobs, JOBS * SPIRE_JOB_WORDS, maps, sizeof maps, job, SPIRE_RING, SPIRE_PLAIN, 0,
-                         places, length);
+    return install(job, SPIRE_RING, places, length);
 }
 
 static struct spire_answer allow(size_t job, uint64_t nodes)
@@ -117,6 +123,36 @@ static void show_near(size_t node)
     printf(", in %lu rounds\n", (unsigned long)order.rounds);
 }
 
+/* The names of a note, text before data, each a part of the note itself. */
+static void show_names(const uint8_t *note, size_t length)
+{
+    struct spire_part part;
+
+    printf("names:");
+    for (size_t k = 0; (part = spire_name(note, length, k)).len != 0; k++)
+        printf(" %.*s", (int)part.len, (const char *)note + part.start);
+    printf("\n");
+}
+
+/* A job's policy becomes a list of a note, or the default where the note has none for it. */
+static void go_by(size_t job, const uint8_t *note, size_t length, enum spire_list which)
+{
+    uint8_t places[SPIRE_PLACES];
+    struct spire_number count =
+        spire_note_places(NODES, jobs, JOBS * SPIRE_JOB_WORDS, maps, sizeof maps, (const uint8_t *)names, sizeof names,
+                          note, length, job, (uint64_t)which, places, sizeof places);
+
+    if (count.refusal != SPIRE_DONE) {
+        printf("note: refused %u\n", (unsigned)count.refusal);
+        return;
+    }
+    printf("note: %lu places", (unsigned long)count.value);
+    for (size_t place = 0; place < count.value; place++)
+        printf(" %u", (unsigned)places[place]);
+    printf("\n");
+    show("install", install(job, count.value == 0 ? SPIRE_DEFAULT : SPIRE_LIST, places, (size_t)count.value));
+}
+
 /* A job that numbers its nodes as the machine does. */
 static void rent_all(void)
 {
@@ -166,12 +202,33 @@ static void rent_two(void)
     show("tenant: release 5", release(TENANT, 5));
 }
 
+/* A program of the tenant, whose nodes are 0 and 1 of the machine now, names its memory: DRAM1 is outside the map. */
+static void rent_named(void)
+{
+    static const char text[] = "SRAM\0ANY", data[] = "DRAM1\0SRAM";
+    static const uint8_t two[] = {0, 1};
+    uint8_t note[64];
+    struct spire_number length = spire_write_note((const uint8_t *)text, sizeof text, (const uint8_t *)data, sizeof data,
+                                                  note, sizeof note);
+
+    printf("a note of %lu bytes\n", (unsigned long)length.value);
+    show_names(note, (size_t)length.value);
+    show("release 3", release(RENTER, 3));
+    show("tenant: map 0,1", set_map(TENANT, two, sizeof two));
+    go_by(TENANT, note, (size_t)length.value, SPIRE_TEXT);
+    show("tenant: request", request(TENANT, 0));
+    show("tenant: request", request(TENANT, 0));
+    go_by(TENANT, note, (size_t)length.value, SPIRE_DATA);
+    go_by(TENANT, note, (size_t)length.value - 1, SPIRE_TEXT);
+}
+
 int main(void)
 {
     show("fresh", spire_fresh(counts, NODES, pages, PAGES, free_counts, NODES));
     show_free();
     rent_all();
     rent_two();
+    rent_named();
     show_nodes("!1-2");
     show_nodes("5-3");
     show_near(0);

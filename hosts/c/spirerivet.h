@@ -32,6 +32,8 @@ extern "C" {
 #define SPIRE_CALL_WORDS 16       /* words of a call in a replay */
 #define SPIRE_MAP_BYTES 64        /* bytes of a job's map */
 #define SPIRE_MAP_END 0xFF        /* what stands after the last node of a map */
+#define SPIRE_ANY 0xFF            /* as the last place in SPIRE_LIST: any node, nearest to the CPU first */
+#define SPIRE_NOTE_HEAD 16        /* bytes of a note before its names */
 #define SPIRE_NO_NODE 0xFF
 #define SPIRE_NO_PAGE 0xFFFFFFFF
 
@@ -54,9 +56,12 @@ enum spire_refusal {
     SPIRE_WRONG_COUNT = 14,       /* a free count disagrees with the page table: a node counted above 0 has no free page, or
                                    * a release would count more free pages than its node has. Count the free pages of each
                                    * node anew, or call spire_fresh when no page is in use */
-    SPIRE_BAD_MAP = 15            /* the job's map is none: empty, a node twice, a node that the machine does not have, or one
+    SPIRE_BAD_MAP = 15,           /* the job's map is none: empty, a node twice, a node that the machine does not have, or one
                                    * after an SPIRE_MAP_END; set it anew by spire_set_map. Or the list of spire_keep_nodes or
                                    * spire_set_map is no good one */
+    SPIRE_BAD_NOTE = 16           /* the note is none: its counts and sizes do not fit its bytes exactly, or a list of names
+                                   * is bad: over 16 names, one of no byte, of over 15, `text`, `data` or `any`, or `ANY`
+                                   * before the last. Or a list of spire_write_note is such a one */
 };
 
 enum spire_mode {
@@ -68,6 +73,8 @@ enum spire_mode {
     SPIRE_RING = 5,
     SPIRE_EARLY = 6
 };
+
+enum spire_list { SPIRE_TEXT = 0, SPIRE_DATA = 1 };
 
 enum spire_flag { SPIRE_PLAIN = 0, SPIRE_STATIC = 1, SPIRE_RELATIVE = 2 };
 
@@ -82,6 +89,11 @@ struct spire_answer {
 struct spire_number {
     uint8_t refusal;
     uint64_t value;
+};
+
+/* A part of the caller's own bytes: where it starts in them, and its length; 0 and 0 for an empty part. */
+struct spire_part {
+    size_t start, len;
 };
 
 /* near(x) as listed: how many nodes, and in how many rounds of its loops; 0 and 0 on a refusal. */
@@ -110,7 +122,8 @@ struct spire_answer spire_fresh(const uint32_t *counts, size_t nodes, uint8_t *p
                                 uint32_t *free_counts, size_t free_len);
 
 /* A job's policy: a mask (modes 1 to 3) or places, a node each (modes 4 to 6), by application numbers; a relative mask has
- * ranks. The record gets system numbers. Writes jobs. Refusals 1, 2, 15, 4, 5, 7, 6. */
+ * ranks. The record gets system numbers. In mode SPIRE_LIST the last place may be SPIRE_ANY, which the record keeps as it is:
+ * there a request goes on with near(the CPU's node). Writes jobs. Refusals 1, 2, 15, 4, 5, 7, 6. */
 struct spire_answer spire_install(size_t nodes, uint64_t *jobs, size_t job_words, const uint8_t *maps, size_t map_bytes,
                                   size_t job, uint64_t mode, uint64_t flag, uint64_t mask,
                                   const uint8_t *places, size_t place_count);
@@ -124,6 +137,27 @@ struct spire_answer spire_keep_nodes(size_t nodes, const uint64_t *jobs, size_t 
  * SPIRE_MAP_END. Writes maps. Refusals 1, 2, 15. */
 struct spire_answer spire_set_map(size_t nodes, const uint64_t *jobs, size_t job_words, uint8_t *maps, size_t map_bytes,
                                   size_t job, const uint8_t *list, size_t list_count);
+
+/* The k-th name of a .memtypes note, k from 0 and text before data, as that part of the note itself, without its zero; an
+ * empty part if the note is bad or has no such name. A note is what stands in the section from the four counts onward, 32
+ * bits each, lowest byte first: how many text names, their bytes, how many data names, their bytes; then the names, text
+ * first, a zero after each, which their bytes count. */
+struct spire_part spire_name(const uint8_t *note, size_t note_bytes, size_t k);
+
+/* A list of a note, SPIRE_TEXT or SPIRE_DATA, as places for spire_install in mode SPIRE_LIST, by the job's application
+ * numbers: how many. `names` has a name for each node of the machine, node 0's first, 1 to 15 bytes and a zero each, none of
+ * them `ANY`, `text`, `data` or `any`; the first node of a name counts. `ANY`, the last of its list, becomes SPIRE_ANY. 0
+ * places: the list is empty, or names a node that is not there or not in the job's map, and the job shall go by
+ * SPIRE_DEFAULT. Installs nothing. Writes that many bytes of out; SPIRE_PLACES are always enough. Refusals 1, 2, 15, 16, 11. */
+struct spire_number spire_note_places(size_t nodes, const uint64_t *jobs, size_t job_words,
+                                      const uint8_t *maps, size_t map_bytes, const uint8_t *names, size_t name_bytes,
+                                      const uint8_t *note, size_t note_bytes, size_t job, uint64_t which,
+                                      uint8_t *out, size_t out_count);
+
+/* The note of a text and a data list, each of up to 16 names with a zero after each: its length, SPIRE_NOTE_HEAD and the
+ * bytes of both. Writes that many bytes of out. Refusals 16, 11. */
+struct spire_number spire_write_note(const uint8_t *text, size_t text_bytes, const uint8_t *data, size_t data_bytes,
+                                     uint8_t *out, size_t out_bytes);
 
 /* A job's allowed nodes, by system numbers; the first call for a fresh job. Writes jobs. Refusals 1, 2, 4, 6, 7, 9. */
 struct spire_answer spire_rebind(size_t nodes, uint64_t *jobs, size_t job_words, size_t job, uint64_t allowed);

@@ -88,19 +88,31 @@ pub fn places_within(places: [u8; PLACES_PER_JOB], count: usize, len: u8) -> boo
     ok
 }
 
+// The system node of a place, in a map of `len` nodes: its entry. 255 where it has none, so a closing 255 stays.
+fn place_node(bytes: &[u8], len: u8, a: AppNode) -> SysNode
+    requires { ⌜ len ≡ length (nodesIn (now bytes)) ⌝ }
+    ensures { λ r. ⌜ r .0 ≡ systemNode (nodesIn (now (bytes .entry))) (a .0) ⌝ }
+{
+    if a.0 < len {
+        return node_at(bytes, a);
+    }
+    SysNode(NO_NODE)
+}
+
 // The first `count` places as system nodes; zeros behind them.
 pub fn turned_places(
     bytes: &[u8],
+    len: u8,
     places: [u8; PLACES_PER_JOB],
     count: usize,
 ) -> [u8; PLACES_PER_JOB]
-    requires { ⌜ (count ≤ placesPerJob) × (all (λ a. ltb a (length (nodesIn (now bytes)))) (take count places) ≡ true) ⌝ }
+    requires { ⌜ (count ≤ placesPerJob) × (len ≡ length (nodesIn (now bytes))) ⌝ }
     ensures { λ r. ⌜ r ≡ take placesPerJob (map (systemNode (nodesIn (now (bytes .entry)))) (take count places) ++ replicate placesPerJob 0) ⌝ }
 {
     let mut out = [0u8; PLACES_PER_JOB];
     let mut i: usize = 0;
     while i < count {
-        out[i] = node_at(bytes, AppNode(places[i])).0;
+        out[i] = place_node(bytes, len, AppNode(places[i])).0;
         i += 1;
     }
     out

@@ -25,7 +25,8 @@ use Rattle.rules.proofs.Turns.{turn-none}
 use Rattle.rules.proofs.Target.{target-none}
 use Rattle.rules.proofs.WellFormed.{Formed, effective-within, some-allowed, list-in-force}
 use Rattle.nodemask.proofs.RankLaws.{lowest-is}
-use Rattle.placement.specs.Plans.{leaves, roundTries}
+use Rattle.records.specs.Jobs.{turnOf}
+use Rattle.placement.specs.Plans.{walkWith, leaves, earlyTries, roundTries, walkTries}
 
 -- ---- nodes of the effective mask
 
@@ -153,9 +154,9 @@ places-in-order turn places len c zero h l = refl
 places-in-order turn places len c (suc k) h l =
     rw (drop-cons places c 0 (omega arith), mod-eq-of-lt {n = c} {m = len} (omega arith), places-in-order turn places len (suc c) k (omega arith) l)
 
-pub list-tries : (r : Record) → r .len ≤ length (r .bytes) → map (try (r .turn)) (placesOf r) ≡ roundTries false (r .bytes) (r .turn) (r .len) 0 (r .len)
-unfolding placesOf
-list-tries r l = places-in-order (r .turn) (r .bytes) (r .len) 0 (r .len) (omega arith) l
+pub list-walk : (places : List ℕ) (len : ℕ) → len ≤ length places → walkTries (walkWith false false len 0) places ≡ map (try (turnOf 0)) (take len places)
+unfolding walkTries earlyTries
+list-walk places len l = sym (places-in-order (turnOf 0) places len 0 len (omega arith) l)
 
 map-same : {A B : Type 0} (f g : A → B) (xs : List A) → ((x : A) → x ∈ xs → f x ≡ g x) → map f xs ≡ map g xs
 map-same f g [] e = refl

@@ -13,7 +13,7 @@ use Rattle.rules.specs.Basics.{keep, first, around}
 use Rattle.rules.specs.Masks.{has}
 use Rattle.rules.specs.Records.{Turn}
 use Rattle.rules.specs.SearchOrder.{Try, try, tried, counted, chosen}
-use Rattle.rules.proofs.Lists.{both-true, keep-append}
+use Rattle.rules.proofs.Lists.{both-true, keep-append, first-append, none-append}
 use Rattle.records.specs.Jobs.{turnOf}
 use Rattle.placement.specs.declared.plan.Walk.{Walk}
 use Rattle.placement.specs.Plans.{leaves, tryPlace, earlyTries, roundTries, walkTries}
@@ -41,6 +41,16 @@ module _ (free : List ℕ) (n limit : ℕ) (t : Try) (ts : List Try) where
       go : (b : Bool) → (ltb (t .node) n && has limit (t .node)) ≡ b → first (keep isCounted (cond b (t ∷ []) [] ++ ts)) ≡ first (keep isCounted ts)
       go true q = let f : counted free (t .node) ≡ false = rw q at e in rw f
       go false q = refl
+
+-- of tries end to end: one of the first is chosen
+pub chosen-first : (free : List ℕ) (ts us : List Try) {t : Try} → chosen free ts ≡ some t → chosen free (ts ++ us) ≡ some t
+unfolding chosen
+chosen-first free ts us e = rw (keep-append (λ (t : Try). counted free (t .node)) ts us) (first-append _ _ e)
+
+-- none of them is: the others choose
+pub chosen-rest : (free : List ℕ) (ts us : List Try) → chosen free ts ≡ none → chosen free (ts ++ us) ≡ chosen free us
+unfolding chosen
+chosen-rest free ts us e = rw (keep-append (λ (t : Try). counted free (t .node)) ts us) (none-append _ _ e)
 
 -- no try is open
 pub none-tried : (free : List ℕ) → chosen free [] ≡ none

@@ -7,11 +7,11 @@ use lib.ListN.{getD}
 use Rattle.rules.specs.Basics.{around}
 use Rattle.rules.specs.Masks.{mostNodes}
 use Rattle.rules.specs.Records.{Record, Turn, lastIs, placesPerJob, wellFormed}
-use Rattle.rules.specs.SearchOrder.{Try, try, Plan as LawPlan, nearest, placed}
+use Rattle.rules.specs.SearchOrder.{Try, try, Plan as LawPlan, nearest, placed, closed}
 use Rattle.records.specs.Jobs.{turnOf}
 use Rattle.placement.specs.declared.plan.Walk.{Walk}
 use Rattle.placement.specs.declared.plan.Plan.{Plan}
-use Rattle.placement.specs.declared.plan.Plan.the-variants.{Near, Places}
+use Rattle.placement.specs.declared.plan.Plan.the-variants.{Near, Places, Closed}
 
 -- a walk of its parts
 abbrev pub walkWith : Bool → Bool → ℕ → ℕ → Walk
@@ -41,6 +41,7 @@ walkTries w places = earlyTries w places ++ roundTries (w .moves) places (turnOf
 abbrev pub planOf : List ℕ → Plan → LawPlan
 planOf places (Near set x cursor) = nearest (set .0) (x .0) (turnOf cursor)
 planOf places (Places w) = placed (walkTries w places)
+planOf places (Closed w x) = closed (walkTries w places) (x .0) (turnOf (w .cursor))
 
 -- What a plan may count on: at most 64 nodes, the limit and x among them, and a record that is well formed on them.
 pub record Plannable (n limit : ℕ) (r : Record) (x : ℕ) : Type 0 where
@@ -53,3 +54,4 @@ pub record Plannable (n limit : ℕ) (r : Record) (x : ℕ) : Type 0 where
 abbrev pub Inside : ℕ → Plan → Type 0
 Inside n (Near set x cursor) = (set .0 < 2 ^ n) × (x .0 < n)
 Inside n (Places w) = (w .len ≤ placesPerJob) × (w .cursor ≤ w .len)
+Inside n (Closed w x) = (w .len ≤ placesPerJob) × (w .cursor ≤ w .len) × (x .0 < n)

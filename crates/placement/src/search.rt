@@ -2,7 +2,7 @@
 // order is built.
 
 ghost use mathlib.Core.Bool.{_&&_};
-ghost use mathlib.Core.List.{map};
+ghost use mathlib.Core.List.{_++_, map};
 ghost use mathlib.Core.Path.{_≡_};
 ghost use Prim.Native.Nat.{_%_, _≤_, _<_};
 ghost use lib.Dec.{ltb};
@@ -112,6 +112,27 @@ fn search_places(free: &[u32], limit: Mask, places: [u8; PLACES_PER_JOB], walk: 
     search_round(free, limit, places, walk)
 }
 
+// ---- by places, and then by near(x)
+
+// M-104: the places, and where none of them is open the nearest node of the limit.
+fn search_closed(
+    free: &[u32],
+    distances: &[u8],
+    limit: Mask,
+    places: [u8; PLACES_PER_JOB],
+    walk: Walk,
+    x: SysNode,
+) -> Chosen
+    requires { ⌜ (walk .len ≤ placesPerJob) × (walk .cursor ≤ walk .len) × Nearable (length (now free)) (now distances) (limit .0) (x .0) ⌝ }
+    ensures { λ r. ⌜ chosenBy r ≡ chosen (now (free .entry)) (tried (length (now (free .entry))) (limit .0) (walkTries walk places) ++ map (try (turnOf (walk .cursor))) (near (length (now (free .entry))) (now (distances .entry)) (limit .0) (x .0))) ⌝ }
+{
+    let placed = search_places(free, limit, places, walk);
+    match placed {
+        Chosen::At(node, cursor) => Chosen::At(node, cursor),
+        Chosen::Nothing => search_near(free, distances, limit, x, walk.cursor),
+    }
+}
+
 // ---- by the plan
 
 // The search of a well-formed job from a CPU on node x. `limit` is the set of nodes that the job may get.
@@ -124,5 +145,6 @@ pub fn search(free: &[u32], distances: &[u8], limit: Mask, decoded: Job, x: SysN
     match plan {
         Plan::Near(set, from, cursor) => search_near(free, distances, set, from, cursor),
         Plan::Places(walk) => search_places(free, limit, places, walk),
+        Plan::Closed(walk, from) => search_closed(free, distances, limit, places, walk, from),
     }
 }

@@ -9,13 +9,14 @@ ghost use lib.ListN.{length, take};
 ghost use Rattle.rules.specs.Basics.{all};
 ghost use Rattle.rules.specs.Masks.{mostNodes};
 ghost use Rattle.rules.specs.Records.{Policy as Asked, placesPerJob, carries, modeOf};
-ghost use Rattle.rules.specs.Maps.{mapSize, nodesIn, turned, withinMap};
+ghost use Rattle.rules.specs.Maps.{mapSize, nodesIn, turned, namedPlaces, withinMap};
 ghost use Rattle.rules.specs.Calls.{policyKnown, maskFits, policyFits};
 ghost use Rattle.records.specs.Jobs.{asked, stands, Asks, Stands};
 use super::record::Carries;
 use super::record::Row;
 use maps::turning;
 use nodemask::Mask;
+use rules;
 use rules::PLACES_PER_JOB;
 
 // The policy that a job asks for, in its own numbers: a mask of application nodes, or of ranks where it is relative, and `len` places, of
@@ -52,10 +53,22 @@ impl AppPolicy {
         }
     }
 
+    // How many of its places name application nodes. M-104: "a 255 in the last place of a mode 4 list" names none.
+    fn naming(self) -> usize
+        requires { ⌜ self .len ≤ placesPerJob ⌝ }
+        ensures { λ r. ⌜ (r ≤ self .len) × ((p : Asked) → Asks self p → take r (self .places) ≡ namedPlaces p) ⌝ }
+    {
+        let places = self.places;
+        if (self.mode == 4) & rules::closes(places, self.len) {
+            return self.len - 1;
+        }
+        self.len
+    }
+
     // At most sixteen places, and "an application number past the map's end is 6": every one that is named has an entry in a map of so many.
     pub fn within(self, entries: u8) -> bool
         ensures tests { λ r. ⌜ ((p : Asked) (nodes : List ℕ) → Asks self p → entries ≡ length nodes → r ≡ (leb (length (p .places)) placesPerJob && withinMap nodes p)) ⌝ }
-        ensures few { λ r. ⌜ (r ≡ true → (self .len ≤ placesPerJob) × (all (λ a. ltb a entries) (take (self .len) (self .places)) ≡ true)) ⌝ }
+        ensures few { λ r. ⌜ (r ≡ true → self .len ≤ placesPerJob) ⌝ }
     {
         if PLACES_PER_JOB < self.len {
             return false;
@@ -63,17 +76,17 @@ impl AppPolicy {
         let places = self.places;
         let user = Mask(self.user);
         ((self.flag == 2) | user.below(entries as usize))
-            & turning::places_within(places, self.len, entries)
+            & turning::places_within(places, self.naming(), entries)
     }
 
     // "User masks and places are turned into system nodes at install ..; a relative mask doesn't, being ranks already"
     pub fn turned(self, bytes: &[u8], entries: u8) -> Policy
-        requires { ⌜ (self .len ≤ placesPerJob) × (all (λ a. ltb a (length (nodesIn (now bytes)))) (take (self .len) (self .places)) ≡ true) × (entries ≡ length (nodesIn (now bytes))) × (entries ≤ mapSize) × (all (λ k. ltb k mostNodes) (nodesIn (now bytes)) ≡ true) ⌝ }
+        requires { ⌜ (self .len ≤ placesPerJob) × (entries ≡ length (nodesIn (now bytes))) × (entries ≤ mapSize) × (all (λ k. ltb k mostNodes) (nodesIn (now bytes)) ≡ true) ⌝ }
         ensures stands { λ r. ⌜ ((p : Asked) → Asks self p → Stands r (turned (nodesIn (now (bytes .entry))) p)) ⌝ }
         ensures same { λ r. ⌜ (r .mode ≡ self .mode) × (r .flag ≡ self .flag) × (r .len ≡ self .len) ⌝ }
     {
         let asked = self.places;
-        let places = turning::turned_places(bytes, asked, self.len);
+        let places = turning::turned_places(bytes, entries, asked, self.len);
         let mut user = Mask(self.user);
         if self.flag != 2 {
             user = turning::turned_mask(bytes, entries, self.user);

@@ -1,4 +1,4 @@
--- Each example of the five tables is right. (Files are checked by name, and what they use first: so a rule that breaks an example is refused
+-- Each example of the seven tables is right. (Files are checked by name, and what they use first: so a rule that breaks an example is refused
 -- at the table, which computes, before any proof.)
 -- Assumes nothing.
 use mathlib.Core.Path.{_≡_, refl}
@@ -10,6 +10,8 @@ use Rattle.rules.specs.MoreExamples as more
 use Rattle.rules.specs.CountExamples as counts
 use Rattle.rules.specs.NearExamples as nears
 use Rattle.rules.specs.MapExamples as maps
+use Rattle.rules.specs.ClosingExamples as closing
+use Rattle.rules.specs.NoteExamples as notes
 use Rattle.rules.proofs.Lists.{_∈_, all-true}
 
 -- a computed test that holds
@@ -36,3 +38,11 @@ near-right h = all-true nears.right (is-true _ nears.all-right) h
 -- M-103 by examples
 pub maps-right : {e : maps.Example} → e ∈ (maps.turns ++ maps.limits ++ maps.badMaps ++ maps.settings) → maps.right e ≡ true
 maps-right h = all-true maps.right (is-true _ maps.all-right) h
+
+-- M-104's closing place by examples
+pub closing-right : {e : maps.Example} → e ∈ (closing.closings ++ closing.elsewhere) → maps.right e ≡ true
+closing-right h = all-true maps.right (is-true _ closing.all-right) h
+
+-- and its notes: notes and tables judged, names handed back, lists turned into places, notes written
+pub notes-right : {e : notes.Example} → e ∈ (notes.judged ++ notes.handed ++ notes.turned ++ notes.written) → notes.right e ≡ true
+notes-right h = all-true notes.right (is-true _ notes.all-right) h

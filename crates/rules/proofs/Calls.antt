@@ -2,10 +2,10 @@
 -- Assumes nothing.
 use Prim.Native.Nat.{ℕ, zero, suc, _+_, _≤_, _<_}
 use mathlib.Core.Path.{_≡_, refl, sym, ap, subst, _∙_}
-use mathlib.Core.Logic.{_↔_, _≢_}
+use mathlib.Core.Logic.{_↔_, _≢_, ⊎-elim}
 use mathlib.Core.Bool.{Bool, true, false, not, _&&_, true≢false}
 use mathlib.Core.Option.{Option, none, some}
-use mathlib.Core.List.{List, [], _∷_, map}
+use mathlib.Core.List.{List, [], _∷_, map, List·Memᴰ·append-cases}
 use native.Mathlib.Omega.{arith}
 use borrow.Author.Tests.{eqb-true, eq-eqb, ltb-true, ltb-false, leb-false, lt-leb, not-true}
 use lib.ListN.{length, getD, drop, set, length-set}
@@ -15,9 +15,10 @@ use Rattle.rules.specs.Basics.{Each, from, sum}
 use Rattle.rules.specs.Machine.{Machine, nodeCount, pagesOf, nodeOfPage, nodeOfCpu}
 use Rattle.rules.specs.Masks.{has, isEmpty, below}
 use Rattle.rules.specs.Records.{Record, Policy, Mode, default, preferred, bind, interleave, list, ring, early, unknownMode}
-use Rattle.rules.specs.Records.{recordAt, putRecord, fresh, wellFormed, installed, rebound}
+use Rattle.rules.specs.Records.{placesOf, closes, recordAt, putRecord, fresh, wellFormed, installed, rebound, Turn}
 use Rattle.rules.specs.Maps.{putMap, goodNodes, systemNode, applicationNode, turned, keepsOf}
-use Rattle.rules.specs.SearchOrder.{Try, Plan, nearest, placed, near, tried, target, interleaved, planIn, plan, modeInForce, order}
+use Rattle.rules.specs.SearchOrder.{Try, try, Plan, nearest, placed, closed, near, tried, target, interleaved, listed, planIn, plan}
+use Rattle.rules.specs.SearchOrder.{modeInForce, order}
 use Rattle.rules.specs.SearchOrder.{freePages, hasRoom, pickPage, counted, chosen}
 use Rattle.rules.specs.Decisions.{Decision, refuse, accept, unless}
 use Rattle.rules.specs.Calls.{granted, released, refused, Tables, Write, write, Store, Remap, Change, afterWrites, afterStores, afterRemaps}
@@ -266,9 +267,10 @@ lengths-kept m t c =
 Inside : ℕ → Plan → Type 0
 Inside limit (nearest set x turn) = (k : ℕ) → has set k ≡ true → has limit k ≡ true
 Inside limit (placed ts) = Unit {0}
+Inside limit (closed ts x turn) = Unit {0}
 
 plan-inside : (mode : Mode) (limit : ℕ) (r : Record) (x : ℕ) → Inside limit (planIn mode limit r x)
-unfolding planIn interleaved Inside
+unfolding planIn interleaved listed Inside
 plan-inside default limit r x = λ k h. h
 plan-inside preferred limit r x = λ k h. h
 plan-inside bind limit r x = λ k h. both-has limit (r .effective) k h .0
@@ -277,18 +279,33 @@ plan-inside interleave limit r x = go (target (r .effective) (r .turn .cursor))
     go : (o : Option ℕ) → Inside limit (interleaved limit o)
     go none = tt
     go (some t) = λ k h. h
-plan-inside list limit r x = tt
+plan-inside list limit r x = go (closes (placesOf r))
+  where
+    go : (b : Bool) → Inside limit (listed b (map (try (r .turn)) (placesOf r)) x (r .turn))
+    go true = tt
+    go false = tt
 plan-inside ring limit r x = tt
 plan-inside early limit r x = tt
 plan-inside unknownMode limit r x = tt
 
+-- a try of near(x) is a node of its set
+near-try : (n : ℕ) (distances : List ℕ) (set x : ℕ) (turn : Turn) {s : Try} → s ∈ map (try turn) (near n distances set x) → has set (s .node) ≡ true
+near-try n distances set x turn h =
+    let r = map-member _ (near n distances set x) h in
+    ap (λ (s : Try). has set (s .node)) (r .2) ∙ near-allowed n distances set x (r .0) (r .1)
+
+-- a place that is not passed over names a node of the limit
+place-try : (n limit : ℕ) (ts : List Try) {s : Try} → s ∈ tried n limit ts → has limit (s .node) ≡ true
+unfolding tried
+place-try n limit ts {s} h = both-true {a = ltb (s .node) n} (keep-member _ ts h .1) .1
+
 planned-allowed : (n : ℕ) (distances : List ℕ) (limit : ℕ) (p : Plan) → Inside limit p → {s : Try} → s ∈ order n distances limit p
     → has limit (s .node) ≡ true
-unfolding order tried Inside
-planned-allowed n distances limit (nearest set x turn) i {s} h =
-    let r = map-member _ (near n distances set x) h in
-    ap (λ (s : Try). has limit (s .node)) (r .2) ∙ i (r .0) (near-allowed n distances set x (r .0) (r .1))
-planned-allowed n distances limit (placed ts) i {s} h = both-true {a = ltb (s .node) n} (keep-member _ ts h .1) .1
+unfolding order Inside
+planned-allowed n distances limit (nearest set x turn) i {s} h = i (s .node) (near-try n distances set x turn h)
+planned-allowed n distances limit (placed ts) i h = place-try n limit ts h
+planned-allowed n distances limit (closed ts x turn) i h =
+    ⊎-elim (place-try n limit ts) (near-try n distances limit x turn) (List·Memᴰ·append-cases (tried n limit ts) h)
 
 -- every node that a search tries is allowed
 pub order-allowed : (n : ℕ) (distances : List ℕ) (limit : ℕ) (r : Record) (x : ℕ) {s : Try} → s ∈ order n distances limit (plan limit r x)

@@ -1,10 +1,10 @@
 -- Every call leaves a well-formed record well formed.
 -- Assumes nothing.
 use Prim.Native.Nat.{ℕ, _^_, _≤_, _<_}
-use mathlib.Core.Path.{_≡_, refl, sym, ap, _∙_}
+use mathlib.Core.Path.{_≡_, refl, sym, ap, subst, _∙_}
 use mathlib.Core.Logic.{⊎-elim}
 use mathlib.Core.Bool.{Bool, true, false, _&&_, cond}
-use mathlib.Core.List.{List, [], _∷_, List·Memᴰ·not-nil, List·Memᴰ·cases-cons}
+use mathlib.Core.List.{List, [], _∷_, map, List·Memᴰ·not-nil, List·Memᴰ·cases-cons, List·Memᴰ·append-cases}
 use mathlib.Core.Option.{Option, none, some}
 use native.Mathlib.Nat.{lt-of-le-of-lt}
 use native.Mathlib.Decide.{ℕ-discrete}
@@ -18,11 +18,11 @@ use Rattle.rules.specs.Masks.{mostNodes, has, isEmpty}
 use Rattle.rules.specs.Records.{Mode, default, preferred, bind, interleave, list, ring, early, unknownMode, rowOf, Carries, nothing, aMask}
 use Rattle.rules.specs.Records.{aList, unknown, aPlace}
 use Rattle.rules.specs.Records.{Flag, plain, static, relative, unknownFlag, carries, modeOf, flagOf, Policy, Turn, lastIs, Record, jobCount}
-use Rattle.rules.specs.Records.{jobTableOk, placesOf, recordAt, putRecord, unusedZero, cursorLimit, noMasks, effectiveFits, masksFit, dataFits}
+use Rattle.rules.specs.Records.{jobTableOk, placesOf, closes, recordAt, putRecord, unusedZero, cursorLimit, noMasks, effectiveFits, masksFit, dataFits}
 use Rattle.rules.specs.Records.{modeKnown, flagKnown, wellFormed, installed, rebound, withTurn}
 use Rattle.rules.specs.Maps.{mapBytes, turned, withinMap}
-use Rattle.rules.specs.SearchOrder.{near, Try, try, Plan, nearest, placed, tried, nodeAt, ringTries, target, interleaved, planIn, modeInForce}
-use Rattle.rules.specs.SearchOrder.{ringPlaces, plan, order, counted, chosen}
+use Rattle.rules.specs.SearchOrder.{near, Try, try, Plan, nearest, placed, closed, tried, nodeAt, ringTries, target, interleaved, listed, planIn}
+use Rattle.rules.specs.SearchOrder.{modeInForce, ringPlaces, plan, order, counted, chosen}
 use Rattle.rules.specs.Decisions.{Decision, refuse, accept}
 use Rattle.rules.specs.Calls.{Tables, Change, Store, afterStores, applied, jobsOk, requestTablesOk, recordTablesOk, mappedTablesOk, flagFits, policyKnown}
 use Rattle.rules.specs.Calls.{mapOf, isMapped, policyFits, installFits, limitOf, orderOf}
@@ -61,6 +61,7 @@ module _ (n : ℕ) (distances : List ℕ) (limit : ℕ) (r : Record) (x : ℕ) (
   TurnsFit : Mode → Plan → Type 0
   TurnsFit k (nearest set y turn) = Fits k turn
   TurnsFit k (placed ts) = (t : Try) → t ∈ ts → Fits k (t .turn)
+  TurnsFit k (closed ts y turn) = ((t : Try) → t ∈ ts → Fits k (t .turn)) × Fits k turn
 
   -- place p for the last: within the limit of a mode whose cursor is a place
   place-turn : (k : Mode) → rowOf k .cursor ≡ aPlace → (p : ℕ) → p < r .len → Fits k (lastIs p)
@@ -79,13 +80,19 @@ module _ (n : ℕ) (distances : List ℕ) (limit : ℕ) (r : Record) (x : ℕ) (
   to-target none e = λ t i. absurd (List·Memᴰ·not-nil i)
   to-target (some y) e = (target-below n r y l h e, refl)
 
+  -- "List: places in order", with a closing 255 or without: the turn stays
+  in-list : (closing : Bool) → modeOf (r .mode) ≡ list → TurnsFit list (listed closing (map (try (r .turn)) (placesOf r)) x (r .turn))
+  unfolding TurnsFit listed
+  in-list true e = ((λ t i. rw (map-member (try (r .turn)) (placesOf r) i .2) (stays list e)), stays list e)
+  in-list false e = λ t i. rw (map-member (try (r .turn)) (placesOf r) i .2) (stays list e)
+
   moves : (k : Mode) → modeOf (r .mode) ≡ k → TurnsFit k (planIn k limit r x)
   unfolding TurnsFit planIn rowOf
   moves default e = stays default e
   moves preferred e = stays preferred e
   moves bind e = stays bind e
   moves interleave e = to-target (target (r .effective) (r .turn .cursor)) refl
-  moves list e = λ t i. rw (map-member (try (r .turn)) (placesOf r) i .2) (stays list e)
+  moves list e = in-list (closes (placesOf r)) e
   moves ring e = λ t i. ring-turn ring refl t i
   moves early e =
       let first = place-turn early refl 0 (carries-list n r (rw e at (h .data-fits)) .3) in
@@ -96,6 +103,11 @@ module _ (n : ℕ) (distances : List ℕ) (limit : ℕ) (r : Record) (x : ℕ) (
   unfolding order tried TurnsFit
   planned-fits k (nearest set y turn) f t i = rw (map-member (try turn) (near n distances set y) i .2) f
   planned-fits k (placed ts) f t i = f t (keep-member _ _ i .0)
+  planned-fits k (closed ts y turn) f t i =
+      ⊎-elim
+      (λ h. f .0 t (keep-member _ _ h .0))
+      (λ h. let e = map-member (try turn) (near n distances limit y) h .2 in subst (λ (s : Try). Fits k (s .turn)) (sym e) (f .1))
+      (List·Memᴰ·append-cases (tried n limit ts) i)
 
   -- every try of a search order leaves a turn within its limit
   order-fits : (t : Try) → t ∈ order n distances limit (plan limit r x) → Fits (modeOf (r .mode)) (t .turn)
@@ -202,7 +214,7 @@ install-good n t j p h =
     let mf = both-true {a = modeKnown (modeOf (q .mode))} {b = flagKnown (flagOf (q .flag))} (k .0) in
     let few = few-places (carries (modeOf (q .mode))) n (r .allowed) q (fits .1) in
     let nodesOk = mapped-nodes n (length (t .records)) (length (t .maps)) (h .tablesOk) .1 in
-    let bytes = turned-bytes nodes p (fits .0) n nodesOk (map-nodes n (mapBytes (t .maps) j) (h .mapped) .known) in
+    let bytes = turned-bytes n nodes p nodesOk (map-nodes n (mapBytes (t .maps) j) (h .mapped) .known) in
     record {
       there = ltb-true j (jobCount (length (t .records))) (h .job);
       storable = installed-storable r q (omega (arith, mode-small (q .mode) (mf .0))) (omega (arith, flag-small (q .flag) (mf .1))) (omega arith) bytes;

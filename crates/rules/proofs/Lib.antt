@@ -9,6 +9,7 @@ pub mod Turns
 pub mod Bytes
 pub mod Records
 pub mod Maps
+pub mod Closing
 pub mod WellFormed
 pub mod Target
 pub mod Kept
@@ -22,3 +23,4 @@ pub mod FreeCounts
 pub mod AsBefore
 pub mod Mapped
 pub mod Unmapped
+pub mod Unclosed

@@ -14,7 +14,7 @@ use native.Mathlib.Omega.{arith}
 use lib.ListN.{length, getD, take, drop, take-append-drop}
 use lib.Dec.{leb}
 use borrow.Author.Tests.{leb-true, le-leb}
-use Rattle.rules.specs.Basics.{all, allAt, any, keep, first, firstOr, isNil, each, from, around, sum, between}
+use Rattle.rules.specs.Basics.{all, allAt, any, keep, first, firstOr, lastOr, butLast, isNil, each, from, around, sum, between}
 
 -- ---- tests
 
@@ -226,6 +226,17 @@ module _ {A : Type 0} where
   unfolding first keep
   keep-first {p} {xs} {x} f = rw (f .split, keep-append p (f .before) (x ∷ f .after), none-keep p (f .before) (f .failed), f .passes)
 
+  -- of two lists end to end the first has the first, if it has one, and else the second
+  pub first-append : (xs ys : List A) {x : A} → first xs ≡ some x → first (xs ++ ys) ≡ some x
+  unfolding first
+  first-append [] ys e = absurd (let z : _≡_ {A = ℕ} 0 1 = cc in omega arith)
+  first-append (y ∷ xs) ys e = e
+
+  pub none-append : (xs ys : List A) → first xs ≡ none → first (xs ++ ys) ≡ first ys
+  unfolding first
+  none-append [] ys e = refl
+  none-append (y ∷ xs) ys e = absurd (let z : _≡_ {A = ℕ} 0 1 = cc in omega arith)
+
   -- the first that passes is one of the list
   pub first-member : {p : A → Bool} {xs : List A} {x : A} → FirstOf p xs x → x ∈ xs
   first-member {x = x} f = subst (λ (l : List A). x ∈ l) (sym (f .split)) (Memᴰ·append-right (f .before) (List·Memᴰ·head refl))
@@ -252,6 +263,21 @@ pub entry-same : (xs : List ℕ) (i a b : ℕ) → i < length xs → getD xs i a
 entry-same [] i a b h = absurd (omega arith)
 entry-same (x ∷ xs) zero a b h = refl
 entry-same (x ∷ xs) (suc i) a b h = entry-same xs i a b (omega arith)
+
+-- ---- the last of a list
+
+module _ {A : Type 0} where
+  -- it stands in the last entry
+  pub last-at : (x : A) (xs : List A) (d : A) → lastOr (x ∷ xs) d ≡ getD (x ∷ xs) (length xs) d
+  unfolding lastOr
+  last-at x [] d = refl
+  last-at x (y ∷ ys) d = last-at y ys d
+
+  -- without its last a list is one shorter
+  pub but-last-take : (x : A) (xs : List A) → butLast (x ∷ xs) ≡ take (length xs) (x ∷ xs)
+  unfolding butLast
+  but-last-take x [] = refl
+  but-last-take x (y ∷ ys) = ap (λ (l : List A). x ∷ l) (but-last-take y ys)
 
 -- ---- members of the lists that are made
 

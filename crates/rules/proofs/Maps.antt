@@ -125,15 +125,20 @@ module _ (nodes : List ℕ) (p : Policy) (inside : withinMap nodes p ≡ true) w
       same aList = refl
       same unknown = refl
 
-  -- and its places are bytes
-  pub turned-bytes : (n : ℕ) → n ≤ mostNodes → all (λ k. ltb k n) nodes ≡ true → AreBytes (turned nodes p .places)
-  unfolding withinMap turned all
-  turned-bytes n l known = go (p .places) (both-true {a = eqb (p .flag) 2 || below (length nodes) (p .user)} inside .1)
-    where
-      go : (ps : List ℕ) → all (λ a. ltb a (length nodes)) ps ≡ true → AreBytes (map (systemNode nodes) ps)
-      go [] h k = omega arith
-      go (a ∷ ps) h zero = let e = entry-below n nodes a noNode known (ltb-true a _ (both-true {a = ltb a (length nodes)} h .0)) in omega arith
-      go (a ∷ ps) h (suc k) = go ps (both-true {a = ltb a (length nodes)} h .1) k
+-- a place that is turned is a node of the map, or 255 past its end: a byte
+pub turned-bytes : (n : ℕ) (nodes : List ℕ) (p : Policy) → n ≤ mostNodes → all (λ k. ltb k n) nodes ≡ true → AreBytes (turned nodes p .places)
+unfolding turned all
+turned-bytes n nodes p few known = go (p .places)
+  where
+    node-byte : (xs : List ℕ) (a : ℕ) → all (λ k. ltb k n) xs ≡ true → systemNode xs a < 256
+    node-byte [] a h = omega arith
+    node-byte (x ∷ xs) zero h = let l = ltb-true x n (both-true {a = ltb x n} h .0) in omega arith
+    node-byte (x ∷ xs) (suc a) h = node-byte xs a (both-true {a = ltb x n} h .1)
+
+    go : (ps : List ℕ) → AreBytes (map (systemNode nodes) ps)
+    go [] k = omega arith
+    go (a ∷ ps) zero = node-byte nodes a known
+    go (a ∷ ps) (suc k) = go ps k
 
 -- ---- the lists that the two calls set
 

@@ -1,4 +1,5 @@
--- M-103: with map 0 to N-1 the calls do what they did before, except that a place at N or above is now 6 at install.
+-- M-103: with map 0 to N-1 the calls do what they did before, except that a place at N or above, but for M-104's closing 255, is now 6 at
+-- install.
 -- Assumes nothing.
 use Prim.Native.Nat.{ℕ, zero, suc, _+_, _-_, _*_, _^_, _≤_, _<_}
 use mathlib.Core.Path.{_≡_, refl, sym, ap, ap₂, subst, _∙_}
@@ -11,16 +12,16 @@ use native.Mathlib.Omega.{arith}
 use borrow.Author.Tests.{eqb-true, eq-eqb, ne-eqb, leb-true, leb-false, ltb-true, ltb-false, lt-ltb, le-ltb}
 use lib.Arith.{lt-of-le-ne}
 use lib.Pow.{pow-pos}
-use lib.ListN.{length, take, drop}
+use lib.ListN.{length, take, drop, List·getD-eq-default}
 use lib.Seq.{take-at, drop-at}
 use lib.Dec.{leb, ltb, eqb}
-use Rattle.rules.specs.Basics.{all, any, each, from}
+use Rattle.rules.specs.Basics.{all, any, lastOr, butLast, each, from}
 use Rattle.rules.specs.Machine.{Machine, nodeCount, nodesOk, pagesOk, cpusOk, pageTableOk, machineOk, nodeOfPage, nodeOfCpu}
 use Rattle.rules.specs.Masks.{mostNodes, bit, both, isEmpty, below, image}
 use Rattle.rules.specs.Records.{Carries, nothing, aMask, aList, unknown, carries, modeOf, Policy, policy, Record, jobCount, jobTableOk}
-use Rattle.rules.specs.Records.{recordAt, wellFormed, installed}
+use Rattle.rules.specs.Records.{closingPlace, closes, recordAt, wellFormed, installed}
 use Rattle.rules.specs.Maps.{mapSize, noNode, mapTableOk, mapBytes, nodesIn, bytesFor, isIn, different, goodMap, setOf, systemNode, entryFrom}
-use Rattle.rules.specs.Maps.{applicationNode, systemMask, turned, withinMap, identityMaps}
+use Rattle.rules.specs.Maps.{applicationNode, systemMask, turned, namedPlaces, withinMap, identityMaps}
 use Rattle.rules.specs.SearchOrder.{Try, plan, order, hasRoom, pickPage, counted, chosen}
 use Rattle.rules.specs.Decisions.{Decision, refuse, accept, unless, then}
 use Rattle.rules.specs.Calls.{granted, released, Tables, Change, storing, mapOf, freeing, isJob, isCpu, freeOk, jobsOk, requestTablesOk}
@@ -134,6 +135,28 @@ places-same n (a ∷ rest) h =
     let b = both-true {a = ltb a n} h in
     ap₂ (λ (x : ℕ) (xs : List ℕ). x ∷ xs) (node-same n a (ltb-true a n (b .0))) (places-same n rest (b .1))
 
+-- and a closing 255 after such places stays
+closing-same : (n : ℕ) (places : List ℕ) → n ≤ mostNodes → lastOr places 0 ≡ closingPlace → all (λ a. ltb a n) (butLast places) ≡ true
+    → map (systemNode (from 0 n)) places ≡ places
+unfolding lastOr butLast all
+closing-same n [] few e h = refl
+closing-same n (a ∷ []) few e h =
+    let past = List·getD-eq-default (from 0 n) noNode {n = a} (rw (length-from 0 n) (omega arith)) in
+    ap (λ (x : ℕ). x ∷ []) (past ∙ sym e)
+closing-same n (a ∷ b ∷ rest) few e h =
+    let t = both-true {a = ltb a n} h in
+    ap₂ (λ (x : ℕ) (xs : List ℕ). x ∷ xs) (node-same n a (ltb-true a n (t .0))) (closing-same n (b ∷ rest) few e (t .1))
+
+-- so the places of a policy stay, where those that name a node are below n
+named-same : (n : ℕ) (p : Policy) → n ≤ mostNodes → all (λ a. ltb a n) (namedPlaces p) ≡ true → map (systemNode (from 0 n)) (p .places) ≡ p .places
+unfolding namedPlaces closes
+named-same n p few h = go (eqb (p .mode) 4 && closes (p .places)) refl h
+  where
+    go : (b : Bool) → (eqb (p .mode) 4 && closes (p .places)) ≡ b → all (λ a. ltb a n) (cond b (butLast (p .places)) (p .places)) ≡ true
+        → map (systemNode (from 0 n)) (p .places) ≡ p .places
+    go true e t = closing-same n (p .places) few (eqb-true _ closingPlace (both-true {a = eqb (p .mode) 4} e .1)) t
+    go false e t = places-same n (p .places) t
+
 -- where no place is at n or above, all are below
 none-past : (n : ℕ) (places : List ℕ) → any (λ a. leb n a) places ≡ false → all (λ a. ltb a n) places ≡ true
 unfolding all any
@@ -150,12 +173,12 @@ some-past n (a ∷ rest) h =
     ⊎-elim (λ e. rw (le-ltb a n (leb-true n a e)) refl) (λ e. rw (some-past n rest e) (and-false (ltb a n))) (either-true {a = leb n a} h)
 
 -- what names no node at n or above is turned into itself
-turned-same : (n : ℕ) (p : Policy) → withinMap (from 0 n) p ≡ true → turned (from 0 n) p ≡ p
+turned-same : (n : ℕ) (p : Policy) → n ≤ mostNodes → withinMap (from 0 n) p ≡ true → turned (from 0 n) p ≡ p
 unfolding withinMap turned
-turned-same n p h =
-    let within : ((eqb (p .flag) 2 || below n (p .user)) && all (λ a. ltb a n) (p .places)) ≡ true = rw (length-from 0 n) at h in
+turned-same n p few h =
+    let within : ((eqb (p .flag) 2 || below n (p .user)) && all (λ a. ltb a n) (namedPlaces p)) ≡ true = rw (length-from 0 n) at h in
     let b = both-true {a = eqb (p .flag) 2 || below n (p .user)} within in
-    ap₂ (λ (user : ℕ) (places : List ℕ). policy (p .mode) (p .flag) user places) (same-user (eqb (p .flag) 2) (b .0)) (places-same n (p .places) (b .1))
+    ap₂ (λ (user : ℕ) (places : List ℕ). policy (p .mode) (p .flag) user places) (same-user (eqb (p .flag) 2) (b .0)) (named-same n p few (b .1))
   where
     same-user : (relative : Bool) → (relative || below n (p .user)) ≡ true → cond relative (p .user) (systemMask (from 0 n) (p .user)) ≡ p .user
     same-user true h = refl
@@ -176,17 +199,18 @@ wide-misfits k n allowed p flag wide = go k
     go unknown = refl
 
 -- with no place at n or above an install fits as before
-fits-same : (n allowed : ℕ) (p : Policy) → Past n p ≡ false → installFits n (from 0 n) allowed p ≡ policyFits (carries (modeOf (p .mode))) n allowed p
+fits-same : (n allowed : ℕ) (p : Policy) → n ≤ mostNodes → Past n p ≡ false
+    → installFits n (from 0 n) allowed p ≡ policyFits (carries (modeOf (p .mode))) n allowed p
 unfolding installFits Past withinMap
-fits-same n allowed p none-there = go (withinMap (from 0 n) p) refl
+fits-same n allowed p few none-there = go (withinMap (from 0 n) p) refl
   where
     kind : Carries
     kind = carries (modeOf (p .mode))
 
     go : (b : Bool) → withinMap (from 0 n) p ≡ b → (b && policyFits kind n allowed (turned (from 0 n) p)) ≡ policyFits kind n allowed p
-    go true e = ap (policyFits kind n allowed) (turned-same n p e)
+    go true e = ap (policyFits kind n allowed) (turned-same n p few e)
     go false e =
-        let places = none-past n (p .places) none-there in
+        let places = none-past n (namedPlaces p) none-there in
         let user : (eqb (p .flag) 2 || below n (p .user)) ≡ false = sym (and-true _) ∙ rw (length-from 0 n, places) at e in
         let b = either-false {a = eqb (p .flag) 2} user in
         sym (wide-misfits kind n allowed p (b .0) (b .1))
@@ -194,7 +218,7 @@ fits-same n allowed p none-there = go (withinMap (from 0 n) p) refl
 -- with one it does not fit
 past-misfits : (n allowed : ℕ) (p : Policy) → Past n p ≡ true → installFits n (from 0 n) allowed p ≡ false
 unfolding installFits Past withinMap
-past-misfits n allowed p there = rw (length-from 0 n, some-past n (p .places) there, and-false (eqb (p .flag) 2 || below n (p .user))) refl
+past-misfits n allowed p there = rw (length-from 0 n, some-past n (namedPlaces p) there, and-false (eqb (p .flag) 2 || below n (p .user))) refl
 
 -- ---- tests in order
 
@@ -394,7 +418,7 @@ module _ (m : Machine) (t : Tables) (j : ℕ) where
       (accept (storing j (installed (recordAt (t .records) j) (turned nodes p))))
 
   -- an install's tests are those before, but for the last
-  install-tests : (p : Policy) (last : Decision Change) → Identity m t → lastTest p (from 0 (nodeCount m)) ≡ last
+  install-tests : (p : Policy) (last : Decision Change) → Identity m t → (nodeCount m ≤ mostNodes → lastTest p (from 0 (nodeCount m)) ≡ last)
       → installDecision (nodeCount m) t j p
       ≡ unless (recordTablesOk (nodeCount m) (length (t .records))) 1
       (unless (isJob (t .records) j) 2
@@ -409,7 +433,7 @@ module _ (m : Machine) (t : Tables) (j : ℕ) where
       ∙ unless-same (wellFormed (nodeCount m) (recordAt (t .records) j)) 4 _ _
       (λ f. unless-same (policyKnown p) 5 _ _
       (λ known. unless-same (not (isEmpty (recordAt (t .records) j .allowed))) 7 _ _
-      (λ some-node. ap (lastTest p) (map-is m t identity (tables-nodes ok) j job) ∙ same)))))
+      (λ some-node. ap (lastTest p) (map-is m t identity (tables-nodes ok) j job) ∙ same (in-range m t identity (tables-nodes ok) .1))))))
     where
       tables-nodes : mappedTablesOk (nodeCount m) (length (t .records)) (length (t .maps)) ≡ true → nodesOk (nodeCount m) ≡ true
       tables-nodes ok = both-true {a = nodesOk (nodeCount m)} ok .0
@@ -427,8 +451,8 @@ module _ (m : Machine) (t : Tables) (j : ℕ) where
       let n = nodeCount m in
       let r = recordAt (t .records) j in
       install-tests p _ identity
-      (unless-both 6 _ _ (fits-same n (r .allowed) p none-there)
-      (λ fits. ap (λ (q : Policy). accept (storing j (installed r q))) (turned-same n p (both-true {a = withinMap (from 0 n) p} fits .0))))
+      (λ few. unless-both 6 _ _ (fits-same n (r .allowed) p few none-there)
+      (λ fits. ap (λ (q : Policy). accept (storing j (installed r q))) (turned-same n p few (both-true {a = withinMap (from 0 n) p} fits .0))))
 
   -- and one that names one does too, with 6 in place of an acceptance
   pub install-past : (p : Policy) → Identity m t → Past (nodeCount m) p ≡ true
@@ -437,7 +461,7 @@ module _ (m : Machine) (t : Tables) (j : ℕ) where
   install-past p identity there =
       let n = nodeCount m in
       let r = recordAt (t .records) j in
-      install-tests p (refuse 6) identity (rw (past-misfits n (r .allowed) p there) refl)
+      install-tests p (refuse 6) identity (λ few. rw (past-misfits n (r .allowed) p there) refl)
       ∙ sym (six-instead (recordTablesOk n (length (t .records))) (isJob (t .records) j) (wellFormed n r) (policyKnown p) (not (isEmpty (r .allowed)))
       (policyFits (carries (modeOf (p .mode))) n (r .allowed) p) (storing j (installed r p)))
 

@@ -4,7 +4,7 @@ use mathlib.Core.List.{List, [], _∷_}
 use Rattle.rules.specs.declared.Refusal.{Refusal}
 use Rattle.rules.specs.declared.Refusal.the-variants.{BadTables, NoSuchJob, NoSuchCpu, MalformedRecord, UnknownPolicy, DoesNotFit}
 use Rattle.rules.specs.declared.Refusal.the-variants.{NothingAllowed, NoRoom, NothingEffective, NotHeld, OutputTooShort, BadText}
-use Rattle.rules.specs.declared.Refusal.the-variants.{DamagedJournal, WrongCount, BadMap}
+use Rattle.rules.specs.declared.Refusal.the-variants.{DamagedJournal, WrongCount, BadMap, BadNote}
 use Rattle.rules.specs.declared.Answer.{Answer}
 use Rattle.rules.specs.declared.Answer.the-variants.{Granted, Released, Done, Refused}
 use Rattle.rules.specs.declared.Decision.{Decision}
@@ -14,9 +14,11 @@ use Rattle.rules.specs.declared.Ordered.the-variants.{Listed, Refused as
 use Rattle.rules.specs.declared.Numbers.{Numbers}
 use Rattle.rules.specs.declared.OrderNumbers.{OrderNumbers}
 use Rattle.rules.specs.declared.Number.{Number}
+use Rattle.rules.specs.declared.Part.{Part}
 use Rattle.rules.specs.Decisions.{Decision as LawDecision, refuse, accept}
 use Rattle.rules.specs.Near.{Order, ordered}
 use Rattle.rules.specs.Calls.{Answer as LawAnswer, granted, released, done, refused, Tables, Outcome, numbers}
+use Rattle.rules.specs.Notes.{Part as LawPart, partAt}
 
 -- The table "Refusal numbers"
 abbrev pub numberOf : Refusal → ℕ
@@ -35,6 +37,7 @@ numberOf BadText = 12
 numberOf DamagedJournal = 13
 numberOf WrongCount = 14
 numberOf BadMap = 15
+numberOf BadNote = 16
 
 -- "Where an answer is an enum, a definition gives this paper's number and values for each case of the enum"
 abbrev pub answerOf : Answer → LawAnswer
@@ -60,6 +63,10 @@ inNumbers (refuse r) = r ∷ 0 ∷ []
 -- the two numbers of a decision
 abbrev pub numberIn : Number → List ℕ
 numberIn n = n .refusal ∷ n .value ∷ []
+
+-- the part of some bytes
+abbrev pub partOf : Part → LawPart
+partOf p = partAt (p .start) (p .len)
 
 -- how many nodes near(x) lists and in how many rounds, or "its number alone"
 abbrev pub orderedOf : Ordered → LawDecision Order

@@ -31,6 +31,17 @@ module _ {A : Type 0} where
   firstOr [] d = d
   firstOr (x ∷ xs) d = x
 
+  -- the last of a list, else d
+  unfoldable pub lastOr : List A → A → A
+  lastOr [] d = d
+  lastOr (x ∷ xs) d = lastOr xs x
+
+  -- a list without its last
+  unfoldable pub butLast : List A → List A
+  butLast [] = []
+  butLast (x ∷ []) = []
+  butLast (x ∷ y ∷ xs) = x ∷ butLast (y ∷ xs)
+
   -- how many of a list pass the test
   unfoldable pub count : (A → Bool) → List A → ℕ
   count p [] = 0
@@ -83,5 +94,5 @@ same (x ∷ xs) (y ∷ ys) = eqb x y && same xs ys
 
 -- for a proof that computes: `unfolding openBasics` opens every definition of this file
 unfoldable pub openBasics : Unit {0}
-unfolding all any keep first firstOr count isNil each from around sum allAt same
+unfolding all any keep first firstOr lastOr butLast count isNil each from around sum allAt same
 openBasics = tt

@@ -10,12 +10,16 @@ pub mod Calls
 pub mod Book
 pub mod FreeCounts
 pub mod Unmapped
+pub mod Unclosed
 pub mod Ledger
 pub mod Text
 pub mod Journal
+pub mod Notes
 pub mod Answers
 pub mod Examples
 pub mod MoreExamples
 pub mod CountExamples
 pub mod NearExamples
 pub mod MapExamples
+pub mod ClosingExamples
+pub mod NoteExamples

@@ -29,11 +29,11 @@ right (mapped t calls nodes) = same (mapOf (final machineA t calls) 0) nodes
 right (stored t calls words) = same (final machineA t calls .records) words
 
 -- a job in default mode with these nodes allowed
-abbrev defaultJob : ℕ → List ℕ
+abbrev pub defaultJob : ℕ → List ℕ
 defaultJob allowed = 0 ∷ 0 ∷ allowed ∷ 0 ∷ 0 ∷ 0 ∷ []
 
 -- machine A with all pages free, these jobs and these maps
-abbrev freeA : List ℕ → List ℕ → Tables
+abbrev pub freeA : List ℕ → List ℕ → Tables
 freeA jobs maps = tablesOf (replicate 6 0) jobs (machineA .pageCounts) maps
 
 -- one job with all nodes allowed and a map of these bytes
@@ -41,7 +41,7 @@ abbrev withBytes : List ℕ → Tables
 withBytes bytes = freeA (defaultJob 15) bytes
 
 -- a job's application node 0 is node 3, its 1 is node 1
-abbrev threeOne : List ℕ
+abbrev pub threeOne : List ℕ
 threeOne = bytesFor (3 ∷ 1 ∷ [])
 
 abbrev start : Tables
@@ -52,7 +52,7 @@ abbrev holding : List ℕ → Tables
 holding bytes = tablesOf (1 ∷ 0 ∷ 0 ∷ 0 ∷ 1 ∷ 0 ∷ []) (defaultJob 15) (1 ∷ 2 ∷ 0 ∷ 1 ∷ []) bytes
 
 -- calls on machine A
-abbrev onA : Tables → List Call → List Answer → Example
+abbrev pub onA : Tables → List Call → List Answer → Example
 onA t calls wanted = answered machineA t calls wanted
 
 -- a request, a release and an install, each with what comes after 15 wrong too, and the tenant's call

@@ -5,9 +5,9 @@ use mathlib.Core.List.{List, [], _∷_, _++_, map}
 use lib.ListN.{length, getD, take, drop, replicate}
 use lib.Seq.{sets}
 use lib.Dec.{leb, ltb, eqb}
-use Rattle.rules.specs.Basics.{all, any, isNil, each, from, between}
+use Rattle.rules.specs.Basics.{all, any, butLast, isNil, each, from, between}
 use Rattle.rules.specs.Masks.{mostNodes, below, maskOf, image}
-use Rattle.rules.specs.Records.{Policy, policy, jobCount}
+use Rattle.rules.specs.Records.{Policy, policy, closes, jobCount}
 
 -- "64 bytes a job"
 abbrev pub mapSize : ℕ
@@ -75,14 +75,19 @@ applicationNode nodes k = entryFrom 0 nodes k
 unfoldable pub systemMask : List ℕ → ℕ → ℕ
 systemMask nodes user = image user (systemNode nodes) (length nodes)
 
--- "User masks and places are turned into system nodes at install ..; a relative mask doesn't, being ranks already"
+-- "User masks and places are turned into system nodes at install ..; a relative mask doesn't, being ranks already". M-104's closing 255,
+-- past every map's end, stays 255.
 unfoldable pub turned : List ℕ → Policy → Policy
 turned nodes p =
     policy (p .mode) (p .flag) (cond (eqb (p .flag) 2) (p .user) (systemMask nodes (p .user))) (map (systemNode nodes) (p .places))
 
+-- the places of a policy that name application nodes; M-104: "a 255 in the last place of a mode 4 list stands, unmapped," for no node
+unfoldable pub namedPlaces : Policy → List ℕ
+namedPlaces p = cond (eqb (p .mode) 4 && closes (p .places)) (butLast (p .places)) (p .places)
+
 -- "an application number past the map's end is 6": those that a policy names, in a mask that is turned or as places
 unfoldable pub withinMap : List ℕ → Policy → Bool
-withinMap nodes p = (eqb (p .flag) 2 || below (length nodes) (p .user)) && all (λ a. ltb a (length nodes)) (p .places)
+withinMap nodes p = (eqb (p .flag) 2 || below (length nodes) (p .user)) && all (λ a. ltb a (length nodes)) (namedPlaces p)
 
 -- "rising": each above the one before, the first at least `least`
 unfoldable pub rising : ℕ → List ℕ → Bool
@@ -105,6 +110,6 @@ identityMaps n jobs = each (λ j. bytesFor (from 0 n)) (from 0 jobs)
 
 -- for a proof that computes: `unfolding openMaps` opens every definition of this file
 unfoldable pub openMaps : Unit {0}
-unfolding mapTableOk mapBytes nodesIn bytesFor putMap different goodNodes goodMap setOf entryFrom systemMask turned withinMap rising keepsOf
-    identityMaps
+unfolding mapTableOk mapBytes nodesIn bytesFor putMap different goodNodes goodMap setOf entryFrom systemMask turned namedPlaces withinMap rising
+    keepsOf identityMaps
 openMaps = tt

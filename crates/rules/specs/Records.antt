@@ -5,7 +5,7 @@ use mathlib.Core.List.{List, [], _∷_, _++_}
 use lib.ListN.{length, getD, take, drop, replicate}
 use lib.Seq.{sets}
 use lib.Dec.{leb, eqb}
-use Rattle.rules.specs.Basics.{all, between}
+use Rattle.rules.specs.Basics.{all, lastOr, between}
 use Rattle.rules.specs.Masks.{mostNodes, both, within, below, isEmpty, folded, remapped}
 
 -- "six to a job"
@@ -153,6 +153,13 @@ fresh = decode (replicate wordsPerJob 0)
 unfoldable pub placesOf : Record → List ℕ
 placesOf r = take (r .len) (r .bytes)
 
+-- M-104: "a 255 in the last place": the places of a list end in it
+abbrev pub closingPlace : ℕ
+closingPlace = 255
+
+unfoldable pub closes : List ℕ → Bool
+closes places = eqb (lastOr places 0) closingPlace
+
 -- "unused bits and places are zero"
 unfoldable pub unusedZero : Record → Bool
 unusedZero r = eqb (r .turn .rest) 0 && all (eqb 0) (drop (r .len) (r .bytes))
@@ -270,6 +277,6 @@ withTurn r turn = record {
 
 -- for a proof that computes: `unfolding openRecords` opens every definition of this file
 unfoldable pub openRecords : Unit {0}
-unfolding rowOf bytesOf fromBytes decode encode jobTableOk recordAt putRecord fresh placesOf unusedZero isKnown flagKnown allowedFits
-    cursorLimit cursorFits noMasks effectiveFits masksFit dataFits wellFormed effectiveAtInstall installed effectiveAtRebind rebound withTurn
+unfolding rowOf bytesOf fromBytes decode encode jobTableOk recordAt putRecord fresh placesOf closes unusedZero isKnown flagKnown
+    allowedFits cursorLimit cursorFits noMasks effectiveFits masksFit dataFits wellFormed effectiveAtInstall installed effectiveAtRebind rebound withTurn
 openRecords = tt

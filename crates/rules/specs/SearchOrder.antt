@@ -9,7 +9,7 @@ use Rattle.rules.specs.Basics.{keep, first, firstOr, isNil, each, from, 
 use Rattle.rules.specs.Machine.{pagesOf, distance}
 use Rattle.rules.specs.Masks.{mostNodes, has, both, isEmpty, lowest}
 use Rattle.rules.specs.Records.{Record, Turn, lastIs, Mode, default, preferred, bind, interleave, list, ring, early, unknownMode, modeOf}
-use Rattle.rules.specs.Records.{placesOf}
+use Rattle.rules.specs.Records.{placesOf, closes}
 
 -- "the other allowed nodes", lower number first: of n nodes, those of a set but x
 unfoldable pub others : ℕ → ℕ → ℕ → List ℕ
@@ -32,10 +32,12 @@ pub record Try : Type 0 where
 abbrev pub try : Turn → ℕ → Try
 try t n = record { node = n; turn = t }
 
--- How a search goes: by near(x) over a set of nodes, every try leaving one turn; or by places, each leaving its own.
+-- How a search goes: by near(x) over a set of nodes, every try leaving one turn; by places, each leaving its own; or, M-104, by places and
+-- then by near(x) over the nodes that the job may get, every try of these leaving one turn.
 pub data Plan : Type 0 where
   nearest : (set x : ℕ) (turn : Turn) → Plan
   placed : List Try → Plan
+  closed : List Try → (x : ℕ) (turn : Turn) → Plan
 
 -- the node that place p names
 unfoldable pub nodeAt : Record → ℕ → ℕ
@@ -62,6 +64,11 @@ unfoldable pub interleaved : ℕ → Option ℕ → Plan
 interleaved limit none = placed []
 interleaved limit (some t) = nearest limit t (lastIs t)
 
+-- "List: places in order"; M-104: "a 255 in the last place of a mode 4 list stands, unmapped, for near(CPU's node) there". The 255 itself, a
+-- byte of N or more, is passed over.
+unfoldable pub listed : Bool → List Try → ℕ → Turn → Plan
+listed closing ts x turn = cond closing (closed ts x turn) (placed ts)
+
 -- "Search order", mode by mode. `limit` is the set of nodes that the job may get, x the CPU's node. "Early: place 0, then as ring"; M-101:
 -- "any grant in mode 6 sets the cursor to the granted place".
 unfoldable pub planIn : Mode → ℕ → Record → ℕ → Plan
@@ -69,7 +76,7 @@ planIn default limit r x = nearest limit x (r .turn)
 planIn preferred limit r x = nearest limit (cond (isEmpty (r .user)) x (lowest mostNodes (r .effective))) (r .turn)
 planIn bind limit r x = nearest (both limit (r .effective)) x (r .turn)
 planIn interleave limit r x = interleaved limit (target (r .effective) (r .turn .cursor))
-planIn list limit r x = placed (map (try (r .turn)) (placesOf r))
+planIn list limit r x = listed (closes (placesOf r)) (map (try (r .turn)) (placesOf r)) x (r .turn)
 planIn ring limit r x = placed (ringTries r)
 planIn early limit r x = placed (try (lastIs 0) (nodeAt r 0) ∷ ringTries r)
 planIn unknownMode limit r x = placed []
@@ -89,6 +96,7 @@ tried n limit ts = keep (λ t. ltb (t .node) n && has limit (t .node)) ts
 unfoldable pub order : ℕ → List ℕ → ℕ → Plan → List Try
 order n distances limit (nearest set x turn) = map (try turn) (near n distances set x)
 order n distances limit (placed ts) = tried n limit ts
+order n distances limit (closed ts x turn) = tried n limit ts ++ map (try turn) (near n distances limit x)
 
 -- "0 is free": the free pages of node n, lowest first
 unfoldable pub freePages : List ℕ → List ℕ → ℕ → List ℕ
@@ -111,6 +119,6 @@ chosen free ts = first (keep (λ t. counted free (t .node)) ts)
 
 -- for a proof that computes: `unfolding openSearchOrder` opens every definition of this file
 unfoldable pub openSearchOrder : Unit {0}
-unfolding others atDistance near nodeAt ringTries target interleaved planIn modeInForce plan tried order freePages hasRoom pickPage
+unfolding others atDistance near nodeAt ringTries target interleaved listed planIn modeInForce plan tried order freePages hasRoom pickPage
     counted chosen
 openSearchOrder = tt

@@ -1,5 +1,6 @@
 -- The calls before request M-103, "Jobs that number from 0": document 01 with every amendment but it, which the calls follow where every
--- job's map is 0 to N-1, "Journal jobs have map 0 to N-1", but for a place at N or above, now "past the map's end".
+-- job's map is 0 to N-1, "Journal jobs have map 0 to N-1", but for a place at N or above, now "past the map's end", other than M-104's
+-- closing 255.
 use Prim.Native.Nat.{ℕ}
 use mathlib.Core.Path.{_≡_}
 use mathlib.Core.Bool.{Bool, true, false, not, _&&_}
@@ -11,7 +12,7 @@ use Rattle.rules.specs.Basics.{any}
 use Rattle.rules.specs.Machine.{Machine, nodeCount, machineOk, pageTableOk, nodeOfPage, nodeOfCpu}
 use Rattle.rules.specs.Masks.{isEmpty}
 use Rattle.rules.specs.Records.{Policy, carries, modeOf, jobCount, jobTableOk, recordAt, wellFormed, installed}
-use Rattle.rules.specs.Maps.{identityMaps}
+use Rattle.rules.specs.Maps.{namedPlaces, identityMaps}
 use Rattle.rules.specs.SearchOrder.{Try, plan, order, hasRoom, chosen, pickPage}
 use Rattle.rules.specs.Decisions.{Decision, refuse, accept, unless}
 use Rattle.rules.specs.Calls.{Answer, granted, released, Tables, Change, storing, granting, freeing, isJob, isCpu, freeOk, freshTablesOk}
@@ -35,9 +36,9 @@ setsMap freshTable = false
 setsMap (keepNodes j kept) = true
 setsMap (setMap j nodes) = true
 
--- "an application number past the map's end": a place at N or above
+-- "an application number past the map's end": a place that names a node, N or above
 unfoldable pub Past : ℕ → Policy → Bool
-Past n p = any (λ a. leb n a) (p .places)
+Past n p = any (λ a. leb n a) (namedPlaces p)
 
 -- ---- the law without maps
 

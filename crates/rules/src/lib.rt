@@ -2,9 +2,10 @@
 
 ghost use mathlib.Core.Path.{_≡_};
 ghost use mathlib.Core.List.{[], _∷_, _++_};
-ghost use Prim.Native.Nat.{ℕ, min};
+ghost use Prim.Native.Nat.{ℕ, min, _≤_};
 ghost use lib.ListN.{take, replicate};
 ghost use Rattle.rules.specs.Calls.{numbers};
+ghost use Rattle.rules.specs.Records.{placesPerJob, closes};
 ghost use Rattle.rules.specs.Answers.{numberOf, answerOf, decisionOf, numbersIn, inNumbers, numberIn, orderedOf, orderNumbers, orderNumbersIn};
 
 // A node number, a page number and a place in a list are three kinds of number; and a node's number on the machine, by which the tables
@@ -32,6 +33,9 @@ pub const MAP_BYTES: usize = 64;
 // Node and page of an answer that names none; and the bytes behind the nodes of a map.
 pub const NO_NODE: u8 = 0xFF;
 
+// The last place of a mode 4 list that stands for near(CPU's node).
+pub const CLOSING_PLACE: u8 = 0xFF;
+
 const NO_PAGE: u32 = 0xFFFF_FFFF;
 
 // The lower of two bytes: with no early exit, a pass that keeps the lowest compiles to vectors.
@@ -42,6 +46,17 @@ pub fn lower(a: u8, b: u8) -> u8
         return a;
     }
     b
+}
+
+// M-104: "a 255 in the last place": do the first `len` places end in it?
+pub fn closes(places: [u8; PLACES_PER_JOB], len: usize) -> bool
+    requires { ⌜ len ≤ placesPerJob ⌝ }
+    ensures { λ r. ⌜ r ≡ closes (take len places) ⌝ }
+{
+    if len == 0 {
+        return false;
+    }
+    places[len - 1] == CLOSING_PLACE
 }
 
 // Copies a list over equal bytes: its first entries, as many as have room.
@@ -55,7 +70,7 @@ pub fn copy_first(list: &[u8], out: &mut [u8])
     }
 }
 
-// Why a call was refused: document 01, "Refusal numbers", from 1 on; 14 is of request M-100, 15 of M-103.
+// Why a call was refused: document 01, "Refusal numbers", from 1 on; 14 is of request M-100, 15 of M-103, 16 of M-104.
 pub enum Refusal {
     BadTables,
     NoSuchJob,
@@ -72,6 +87,7 @@ pub enum Refusal {
     DamagedJournal,
     WrongCount,
     BadMap,
+    BadNote,
 }
 
 // What a call answers. A node is named by its number in the job's map, FF where it has none.
@@ -117,6 +133,13 @@ pub struct OrderNumbers {
     pub rounds: u32,
 }
 
+// A part of the caller's bytes: 0 and 0 is an empty one.
+#[repr(C)]
+pub struct Part {
+    pub start: usize,
+    pub len: usize,
+}
+
 impl Refusal {
     // The number of a refusal.
     pub fn number(self) -> u8
@@ -138,6 +161,7 @@ impl Refusal {
             Refusal::DamagedJournal => 13,
             Refusal::WrongCount => 14,
             Refusal::BadMap => 15,
+            Refusal::BadNote => 16,
         }
     }
 }

@@ -8,7 +8,7 @@ use lib.ListN.{getD}
 use Rattle.rules.specs.declared.Refusal.{Refusal}
 use Rattle.rules.specs.declared.Refusal.the-variants.{BadTables, NoSuchJob, NoSuchCpu, MalformedRecord, UnknownPolicy, DoesNotFit}
 use Rattle.rules.specs.declared.Refusal.the-variants.{NothingAllowed, NoRoom, NothingEffective, NotHeld, OutputTooShort, BadText}
-use Rattle.rules.specs.declared.Refusal.the-variants.{DamagedJournal, WrongCount, BadMap}
+use Rattle.rules.specs.declared.Refusal.the-variants.{DamagedJournal, WrongCount, BadMap, BadNote}
 use Rattle.rules.specs.declared.Decision.{Decision}
 use Rattle.rules.specs.declared.Decision.the-variants.{Accept, Refuse}
 use Rattle.rules.specs.declared.Number.{Number}
@@ -57,6 +57,7 @@ numbered BadText = omega arith
 numbered DamagedJournal = omega arith
 numbered WrongCount = omega arith
 numbered BadMap = omega arith
+numbered BadNote = omega arith
 
 -- refusal 0 is no refusal: the calls ran
 pub ran-at-zero : (x : Decision) {n : Number} → numberIn n ≡ inNumbers (decisionOf x) → n .refusal ≡ 0 → decisionOf x ≡ accept (n .value)

@@ -3,10 +3,11 @@
 ghost use mathlib.Core.Path.{_≡_};
 ghost use Prim.Native.Nat.{ℕ};
 ghost use lib.ListN.{replicate};
-ghost use Rattle.rules.specs.Answers.{numbersIn, numberIn, inNumbers, orderNumbersIn, told, toldOf};
+ghost use Rattle.rules.specs.Answers.{numbersIn, numberIn, inNumbers, orderNumbersIn, partOf, told, toldOf};
 ghost use Rattle.rules.specs.Calls.{Tables, tablesOf, withRecords, withPages, withJobs, onRequest, onRelease, onFresh, onInstall, onRebind, onClear, onKeep, onSetMap};
 ghost use Rattle.rules.specs.Journal.{writeJournal};
 ghost use Rattle.rules.specs.Near.{onNear};
+ghost use Rattle.rules.specs.Notes.{namePart, notePlaces, writeNote};
 ghost use Rattle.rules.specs.Records.{policy};
 ghost use Rattle.rules.specs.Text.{readText, writeText};
 ghost use Rattle.machine.specs.Tables.{machineOf};
@@ -17,6 +18,7 @@ ghost use Rattle.spirerivet.specs.Told.{toldOutput, toldWritten, toldLis
 use journal;
 use machine::listing;
 use nodelist;
+use notes;
 use placement;
 use records;
 use records::mapping;
@@ -24,6 +26,7 @@ use replay;
 use rules::Number;
 use rules::Numbers;
 use rules::OrderNumbers;
+use rules::Part;
 
 // A page for a job from a CPU.
 #[no_mangle]
@@ -142,6 +145,39 @@ pub extern "C" fn spire_write_nodes(nodes: usize, mask: u64, out: &mut [u8]) -> 
     ensures { λ r. ⌜ toldOutput (numberIn r) (now (out .exit)) ≡ toldWritten (writeText nodes mask (now (out .entry))) ⌝ }
 {
     nodelist::write_nodes(nodes, mask, out).number()
+}
+
+// The k-th name of a note: which part of the note it is.
+#[no_mangle]
+pub extern "C" fn spire_name(note: &[u8], k: usize) -> Part
+    ensures { λ r. ⌜ partOf r ≡ namePart (now (note .entry)) k ⌝ }
+{
+    notes::name_part(note, k)
+}
+
+// A note's list as places for a job at the start of the output, and how many: 0 for the text list, else the data list.
+#[no_mangle]
+pub extern "C" fn spire_note_places(
+    nodes: usize,
+    jobs: &[u64],
+    maps: &[u8],
+    names: &[u8],
+    note: &[u8],
+    job: usize,
+    which: u64,
+    out: &mut [u8],
+) -> Number
+    ensures { λ r. ⌜ toldOutput (numberIn r) (now (out .exit)) ≡ toldWritten (notePlaces nodes (now (jobs .entry)) (now (maps .entry)) (now (names .entry)) (now (note .entry)) job which (now (out .entry))) ⌝ }
+{
+    notes::note_places(nodes, jobs, maps, names, note, job, which, out).number()
+}
+
+// The note of a text and a data list at the start of the output, and its length.
+#[no_mangle]
+pub extern "C" fn spire_write_note(text: &[u8], data: &[u8], out: &mut [u8]) -> Number
+    ensures { λ r. ⌜ toldOutput (numberIn r) (now (out .exit)) ≡ toldWritten (writeNote (now (text .entry)) (now («data» .entry)) (now (out .entry))) ⌝ }
+{
+    notes::write_note(text, data, out).number()
 }
 
 // near(x) over a set of nodes at the start of the output: how many nodes, and in how many rounds.

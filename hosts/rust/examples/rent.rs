@@ -1,11 +1,14 @@
-//! Rents out machine A of document 01 to three tenants, the last with a map of its own, and tells what happens.
+//! Rents out machine A of document 01 to three tenants, the last with a map of its own and a program that names its memory,
+//! and tells what happens.
 
-use spirerivet::{flag, mode, Answer, AppNode, SysNode, JOB_WORDS};
+use spirerivet::{flag, mode, which, Answer, AppNode, SysNode, JOB_WORDS, MOST_PLACES};
 
 /// The machine: page counts, the node of each CPU, and the distances.
 const COUNTS: [u32; 4] = [2, 2, 0, 2];
 const CPUS: [u8; 8] = [0, 0, 1, 1, 2, 2, 3, 3];
 const DISTANCES: [u8; 16] = [10, 20, 20, 30, 20, 10, 30, 20, 20, 30, 10, 20, 30, 20, 20, 10];
+/// What its nodes are called by programs.
+const NAMES: &[u8] = b"DRAM0\0SRAM\0FLASH\0DRAM1\0";
 
 /// Each node's pages, a mark for each: the digit of its tenant, or a dot.
 fn nodes(pages: &[u8]) -> [String; 4] {
@@ -71,7 +74,8 @@ impl House {
     fn number(&mut self, job: usize, nodes: &[SysNode]) {
         let answer = spirerivet::set_map(COUNTS.len(), &self.jobs, &mut self.maps, job, nodes);
         let list: Vec<String> = nodes.iter().map(SysNode::to_string).collect();
-        self.tell(&format!("tenant {job} gets {} as its 0, 1", list.join(", ")), answer);
+        let numbers: Vec<String> = (0..nodes.len()).map(|number| number.to_string()).collect();
+        self.tell(&format!("tenant {job} gets {} as its {}", list.join(", "), numbers.join(", ")), answer);
     }
 
     /// A tenant keeps one of its nodes and drops the others.
@@ -84,6 +88,27 @@ impl House {
     fn policy(&mut self, job: usize, words: &str, mode: u64, flag: u64, mask: u64, places: &[AppNode]) {
         let answer = spirerivet::install(COUNTS.len(), &mut self.jobs, &self.maps, job, mode, flag, mask, places);
         self.tell(&format!("tenant {job} wants {words}"), answer);
+    }
+
+    /// A program comes with a note: its names, text before data.
+    fn load(&mut self, note: &[u8]) {
+        let names = (0..).map(|k| spirerivet::name(note, k)).take_while(|name| !name.is_empty());
+        let words: Vec<String> = names.map(|name| String::from_utf8_lossy(name).into_owned()).collect();
+        self.line("a program names its memory", &words.join(" "));
+    }
+
+    /// A tenant's policy becomes a list of the note, or the default where the note has none for it.
+    fn go_by(&mut self, job: usize, note: &[u8], list: u64) {
+        let (mut places, asked) = ([AppNode(0); MOST_PLACES], if list == which::TEXT { "text" } else { "data" });
+        match spirerivet::note_places(COUNTS.len(), &self.jobs, &self.maps, NAMES, note, job, list, &mut places) {
+            Ok(0) => self.policy(job, &format!("{asked}: the default"), mode::DEFAULT, flag::NONE, 0, &[]),
+            Ok(length) => {
+                let list: Vec<String> = places[..length].iter().map(AppNode::to_string).collect();
+                let words = format!("{asked}: {}", list.join(", "));
+                self.policy(job, &words, mode::LIST, flag::NONE, 0, &places[..length]);
+            }
+            Err(refusal) => self.line(&format!("tenant {job} wants {asked}"), &refusal.to_string()),
+        }
     }
 
     /// A tenant's program needs a page on a CPU.
@@ -105,6 +130,21 @@ impl House {
         let answer = spirerivet::clear(COUNTS.len(), &mut self.jobs, job);
         self.tell(&format!("tenant {job} leaves"), answer);
     }
+}
+
+/// A program with a note: its text goes by names, its data, of a node outside the map, by default.
+fn named_memory(house: &mut House) {
+    house.rent(2, "0-3");
+    house.number(2, &[SysNode(3), SysNode(1), SysNode(0)]);
+    let mut note = [0; 64];
+    let length = spirerivet::write_note(b"SRAM\0DRAM1\0ANY\0", b"FLASH\0", &mut note).expect("good lists");
+    let note = &note[..length];
+    house.load(note);
+    house.go_by(2, note, which::TEXT);
+    house.need(2, 0);
+    house.need(2, 0);
+    house.go_by(2, note, which::DATA);
+    house.go_by(2, &note[..length - 1], which::TEXT);
 }
 
 /// The whole story.
@@ -137,6 +177,7 @@ pub fn story() -> String {
     house.give_back(2, 4);
     house.need(2, 0);
     house.leave(2);
+    named_memory(&mut house);
     for (node, marks) in nodes(&house.pages).iter().enumerate() {
         let (free, all) = (house.free[node], COUNTS[node]);
         house.story.push_str(&format!("node {node:2}  {free} of {all} free  |{marks}|\n"));

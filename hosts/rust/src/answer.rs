@@ -43,11 +43,14 @@ pub enum Refusal {
     /// The job's map is none: empty, with a node twice or one that the machine does not have, or with a node after its end.
     /// The administrator sets it anew by `set_map`. Or the list of `keep_nodes` or `set_map` is no good one.
     BadMap,
+    /// The note is none: its counts and sizes do not fit its bytes, or one of its lists is bad: over 16 names, a name of no
+    /// byte or of over 15, one of text, data and any, or ANY before the last. Or a list of `write_note` is such a one.
+    BadNote,
 }
 
 impl Refusal {
     /// Every refusal there is.
-    pub const ALL: [Refusal; 15] = [
+    pub const ALL: [Refusal; 16] = [
         Refusal::BadTables,
         Refusal::NoSuchJob,
         Refusal::NoSuchCpu,
@@ -63,6 +66,7 @@ impl Refusal {
         Refusal::DamagedJournal,
         Refusal::WrongCount,
         Refusal::BadMap,
+        Refusal::BadNote,
     ];
 
     /// Its number in the papers.
@@ -87,12 +91,12 @@ mod tests {
     use super::*;
 
     #[test]
-    fn numbers_go_from_1_to_15() {
+    fn numbers_go_from_1_to_16() {
         for (index, refusal) in Refusal::ALL.into_iter().enumerate() {
             assert_eq!(usize::from(refusal.number()), index + 1);
             assert_eq!(Refusal::of_number(refusal.number()), Some(refusal));
         }
         assert_eq!(Refusal::of_number(0), None);
-        assert_eq!(Refusal::of_number(16), None);
+        assert_eq!(Refusal::of_number(17), None);
     }
 }

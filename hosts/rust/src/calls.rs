@@ -100,7 +100,7 @@ pub fn fresh(counts: &[u32], pages: &mut [u8], free: &mut [u32]) -> Answer {
 }
 
 /// Sets a job's policy: a mode of `mode`, a flag of `flag`, a user mask or places. Places, and the bits of a mask that is not
-/// relative, are the job's own numbers; the record gets the machine's.
+/// relative, are the job's own numbers; the record gets the machine's. In mode `LIST` the last place may be `AppNode::ANY`.
 #[inline]
 pub fn install(
     nodes: usize,
@@ -135,6 +135,34 @@ pub fn rebind(nodes: usize, jobs: &mut [u64], job: usize, allowed: u64) -> Answe
 #[inline]
 pub fn clear(nodes: usize, jobs: &mut [u64], job: usize) -> Answer {
     answer(ffi::clear(nodes, jobs, job), done)
+}
+
+/// The k-th name of a note, k from 0 and text before data, as that part of the note itself, without its zero; empty if the
+/// note is bad or has no such name.
+pub fn name(note: &[u8], k: usize) -> &[u8] {
+    let part = ffi::name(note, k);
+    &note[part.start..][..part.len]
+}
+
+/// Turns a list of a note, `which::TEXT` or `which::DATA`, into places for `install` in mode `LIST`, by the job's own
+/// numbers; gives how many. `names` has a name for each node of the machine, each with a zero after it. ANY becomes
+/// `AppNode::ANY`. No places at all: the list is empty, or names what is not in the job's map, and the job goes by default.
+pub fn note_places(
+    nodes: usize,
+    jobs: &[u64],
+    maps: &[u8],
+    names: &[u8],
+    note: &[u8],
+    job: usize,
+    which: u64,
+    out: &mut [AppNode],
+) -> Result<usize, Refusal> {
+    number(ffi::note_places(nodes, jobs, maps, names, note, job, which, out)).map(|places| places as usize)
+}
+
+/// Writes the note of a text and a data list, each of up to 16 names with a zero after each; gives its length.
+pub fn write_note(text: &[u8], data: &[u8], out: &mut [u8]) -> Result<usize, Refusal> {
+    number(ffi::write_note(text, data, out)).map(|length| length as usize)
 }
 
 /// The mask that a node list stands for.

@@ -31,6 +31,13 @@ pub struct HostOrder {
     pub rounds: u32,
 }
 
+/// A part of the caller's bytes: where it starts, and its length; 0 and 0 for an empty one.
+#[repr(C)]
+pub struct HostPart {
+    pub start: usize,
+    pub len: usize,
+}
+
 #[rustfmt::skip]
 extern "C" {
     fn spire_request(
@@ -62,6 +69,15 @@ extern "C" {
         nodes: usize, jobs: *const u64, jobs_len: usize, maps: *mut u8, maps_len: usize, job: usize,
         list: *const SysNode, list_len: usize,
     ) -> HostAnswer;
+    fn spire_name(note: *const u8, note_len: usize, k: usize) -> HostPart;
+    fn spire_note_places(
+        nodes: usize, jobs: *const u64, jobs_len: usize, maps: *const u8, maps_len: usize,
+        names: *const u8, names_len: usize, note: *const u8, note_len: usize, job: usize, which: u64,
+        out: *mut AppNode, out_len: usize,
+    ) -> HostNumber;
+    fn spire_write_note(
+        text: *const u8, text_len: usize, data: *const u8, data_len: usize, out: *mut u8, out_len: usize,
+    ) -> HostNumber;
     fn spire_read_nodes(nodes: usize, allowed: u64, text: *const u8, text_len: usize) -> HostNumber;
     fn spire_write_nodes(nodes: usize, mask: u64, out: *mut u8, out_len: usize) -> HostNumber;
     fn spire_near(
@@ -156,6 +172,31 @@ pub fn set_map(nodes: usize, jobs: &[u64], maps: &mut [u8], job: usize, list: &[
     }
 }
 
+pub fn name(note: &[u8], k: usize) -> HostPart {
+    unsafe { spire_name(note.as_ptr(), note.len(), k) }
+}
+
+#[rustfmt::skip]
+pub fn note_places(
+    nodes: usize, jobs: &[u64], maps: &[u8], names: &[u8], note: &[u8], job: usize, which: u64, out: &mut [AppNode],
+) -> HostNumber {
+    unsafe {
+        spire_note_places(
+            nodes, jobs.as_ptr(), jobs.len(), maps.as_ptr(), maps.len(), names.as_ptr(), names.len(),
+            note.as_ptr(), note.len(), job, which, out.as_mut_ptr(), out.len(),
+        )
+    }
+}
+
+#[rustfmt::skip]
+pub fn write_note(text: &[u8], data: &[u8], out: &mut [u8]) -> HostNumber {
+    unsafe {
+        spire_write_note(
+            text.as_ptr(), text.len(), data.as_ptr(), data.len(), out.as_mut_ptr(), out.len(),
+        )
+    }
+}
+
 pub fn read_nodes(nodes: usize, allowed: u64, text: &[u8]) -> HostNumber {
     unsafe { spire_read_nodes(nodes, allowed, text.as_ptr(), text.len()) }
 }
@@ -193,6 +234,11 @@ impl AppNode {
     /// Bytes as a list of application nodes.
     pub fn list(bytes: &[u8]) -> &[AppNode] {
         unsafe { std::slice::from_raw_parts(bytes.as_ptr().cast(), bytes.len()) }
+    }
+
+    /// Bytes as a list of application nodes, to be written.
+    pub fn list_mut(bytes: &mut [u8]) -> &mut [AppNode] {
+        unsafe { std::slice::from_raw_parts_mut(bytes.as_mut_ptr().cast(), bytes.len()) }
     }
 }
 

@@ -15,8 +15,8 @@ mod node;
 
 pub use answer::{Answer, Order, Refusal};
 pub use calls::{
-    clear, fresh, install, journal, keep_nodes, near, read_nodes, rebind, release, replay, request, set_map,
-    write_nodes,
+    clear, fresh, install, journal, keep_nodes, name, near, note_places, read_nodes, rebind, release, replay, request,
+    set_map, write_nodes, write_note,
 };
 pub use list::{answer_of, words_of, Call, CALL_WORDS, MOST_CALL_PLACES};
 pub use node::{identity_maps, AppNode, SysNode, MAP_BYTES, MAP_END};
@@ -33,6 +33,15 @@ pub mod mode {
     pub const LIST: u64 = 4;
     pub const RING: u64 = 5;
     pub const EARLY: u64 = 6;
+}
+
+/// The most places of a list, and the most names of a note's.
+pub const MOST_PLACES: usize = 16;
+
+/// The lists of a note.
+pub mod which {
+    pub const TEXT: u64 = 0;
+    pub const DATA: u64 = 1;
 }
 
 /// The flags that `install` knows.

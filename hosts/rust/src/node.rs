@@ -24,6 +24,11 @@ impl fmt::Display for SysNode {
     }
 }
 
+impl AppNode {
+    /// As the last place of a list in mode `LIST`: any node that the job may get, nearest to its CPU first.
+    pub const ANY: AppNode = AppNode(255);
+}
+
 /// The bytes of a job in the table of maps.
 pub const MAP_BYTES: usize = 64;
 /// What stands in a map after its last node.

@@ -8,6 +8,7 @@ mod journal;
 mod lent;
 mod list;
 mod near;
+mod notes;
 mod text;
 
 use std::ops::Range;
@@ -18,6 +19,7 @@ pub use journal::journal_by_both;
 pub use lent::{Lent, LentTables};
 pub use list::{answer_word, install_in, list_refusal, map_call_in, packed, words, RUBBISH};
 pub use near::near_by_both;
+pub use notes::{name_by_both, places_by_both, write_note_by_both};
 pub use text::{read_by_both, write_by_both};
 
 /// The numbers from 0, for no refusal, to the highest refusal.

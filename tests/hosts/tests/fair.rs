@@ -2,6 +2,7 @@
 
 use hosts::{seeds, words};
 use reference::calls::{Call, Tables};
+use reference::closing::Closings;
 use reference::fair::{add, check, check_with, Grant, Seen};
 use reference::generate::{journal_parts, list};
 use reference::machine::node_of_page;
@@ -35,18 +36,22 @@ fn fair(told: &str, start: &Tables, calls: &[Call], total: &mut Seen) {
 
 #[test]
 fn every_window_of_every_replay_is_fair() {
-    let mut total = Seen::default();
+    let (mut total, mut closings) = (Seen::default(), Closings::default());
     let mut fresh = 0;
     for seed in seeds(150) {
         let (start, calls) = list(seed, 160);
         fresh += calls.iter().filter(|call| **call == Call::Fresh).count();
         fair(&format!("list seed {seed}"), &start, &calls, &mut total);
+        closings.enter_list(&start, &calls);
     }
     for seed in seeds(60) {
         let (start, calls) = journal_parts(seed, 160);
         fair(&format!("journal seed {seed}"), &start, &calls, &mut total);
+        closings.enter_list(&start, &calls);
     }
-    println!("{total:?}, {fresh} fresh tables");
+    println!("{total:?}, {fresh} fresh tables, {closings:?}");
+    // Between the grants that are counted, other jobs go by a closing 255 (M-104).
+    assert!(closings.each_at_least(20), "{closings:?}");
     assert!(total.grants > 3_000 && total.at_least > 3_000 && total.exact > 300, "{total:?}");
     assert!(fresh > 100, "{fresh}");
 }

@@ -8,6 +8,8 @@ use spirerivet::{AppNode, Order, Refusal, SysNode};
 
 /// Zero bytes that nobody has touched: the system has not even made room for them.
 const HUGE: usize = 1 << 28;
+/// Bytes of one name: to read them all takes ten milliseconds or more.
+const LONG_NAME: usize = 1 << 26;
 /// Calls of each sort, and the time they may take together.
 const CALLS: usize = 20;
 const MOST: Duration = Duration::from_secs(2);
@@ -161,4 +163,37 @@ fn huge_maps_are_refused_at_once() {
     assert_eq!(pages, [1, 0, 0, 0, 0, 0]);
     assert_eq!(jobs, machine_a().jobs);
     assert!(maps.iter().all(|byte| *byte == 0));
+}
+
+/// Notes, lists and tables of names far too long; and far more output than a note fills.
+#[test]
+fn huge_notes_are_refused_and_written_at_once() {
+    let (bytes, mut out) = (vec![0; HUGE], vec![0; HUGE]);
+    let long = vec![b'A'; LONG_NAME];
+    let mut note_of_it = [1, LONG_NAME as u32, 0, 0].map(u32::to_le_bytes).concat();
+    note_of_it.extend(&long);
+    let Tables { jobs, maps, .. } = machine_a();
+    let (names, note) = (b"A\0B\0C\0D\0", [0; 16]);
+    at_once("note, lists and names", || {
+        assert!(spirerivet::name(&bytes, 0).is_empty());
+        let places = |names: &[u8], note: &[u8]| spirerivet::note_places(4, &jobs, &maps, names, note, 0, 0, &mut []);
+        assert_eq!(places(&bytes, &note), Err(Refusal::BadTables));
+        assert_eq!(places(names, &bytes), Err(Refusal::BadNote));
+        assert_eq!(places(names, &note), Ok(0));
+        assert_eq!(spirerivet::write_note(&bytes, &[], &mut []), Err(Refusal::BadNote));
+        assert_eq!(spirerivet::write_note(&[], &bytes, &mut []), Err(Refusal::BadNote));
+    });
+    at_once("a name without an end", || {
+        assert!(spirerivet::name(&note_of_it, 0).is_empty());
+        let places = |names: &[u8], note: &[u8]| spirerivet::note_places(4, &jobs, &maps, names, note, 0, 0, &mut []);
+        assert_eq!(places(&long, &note), Err(Refusal::BadTables));
+        assert_eq!(places(names, &note_of_it), Err(Refusal::BadNote));
+        assert_eq!(spirerivet::write_note(&long, &[], &mut []), Err(Refusal::BadNote));
+        assert_eq!(spirerivet::write_note(&[], &long, &mut []), Err(Refusal::BadNote));
+    });
+    at_once("a note into far too many bytes", || {
+        assert_eq!(spirerivet::write_note(b"A\0", b"ANY\0", &mut out), Ok(22));
+    });
+    assert_eq!(&out[..24], b"\x01\0\0\0\x02\0\0\0\x01\0\0\0\x04\0\0\0A\0ANY\0\0\0");
+    assert!(out[22..].iter().all(|byte| *byte == 0));
 }

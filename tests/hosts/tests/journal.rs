@@ -1,7 +1,8 @@
 //! Whole journals by the linked library and by the second implementation, each with room for all its answers and for fewer.
 
 use hosts::{journal_by_both, seeds};
-use reference::generate::{damaged, journal};
+use reference::closing::Closings;
+use reference::generate::{damaged, journal, journal_parts};
 use reference::journal::{run, ANSWER, RECORD};
 
 /// Answered with exactly the room that the answers need and with more; refused 11 with a byte less, an answer less and
@@ -23,14 +24,16 @@ fn in_every_room(told: &str, input: &[u8]) -> usize {
 
 #[test]
 fn whole_journals_are_answered_alike() {
-    let mut answers = 0;
+    let (mut answers, mut closings) = (0, Closings::default());
     for seed in seeds(200) {
+        let (start, calls) = journal_parts(seed, 60);
+        closings.enter_list(&start, &calls);
         for (sort, input) in [("good", journal(seed, 60)), ("damaged", damaged(seed))] {
             answers += in_every_room(&format!("{sort} journal, seed {seed}"), &input);
         }
     }
-    println!("{answers} answers, in four runs each");
-    assert!(answers > 12_000);
+    println!("{answers} answers, in four runs each, {closings:?}");
+    assert!(answers > 12_000 && closings.each_at_least(5), "{answers} {closings:?}");
 }
 
 #[test]

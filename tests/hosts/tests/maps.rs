@@ -8,9 +8,11 @@ use reference::examples::machine_a;
 use reference::fair::{add, check_with, Grant, Seen as Fair};
 use reference::generate::{case, journal_parts, list, tables, Case, Dice};
 use reference::machine::node_of_page;
-use reference::map_cases::{bad_keep, good_keep, map_of_sort, numbers_of, put_map, wrong_length, Sort, SORTS};
+use reference::map_cases::{
+    bad_keep, good_keep, has_far_place, map_of_sort, numbers_of, put_map, wrong_length, Sort, SORTS,
+};
 use reference::maps::{entries, map_of, map_with, maps_fit, AppNode, MAP_BYTES};
-use reference::record::{has_a_list, read, INTERLEAVE, RING, WORDS};
+use reference::record::{read, INTERLEAVE, RING, WORDS};
 
 /// How many nodes there are, and jobs.
 fn sizes(tables: &Tables) -> (usize, usize) {
@@ -137,12 +139,6 @@ fn a_released_page_outside_the_map_answers_ff() {
     }
     println!("{inside} inside the map, {outside} outside");
     assert!(inside > 1_000 && outside > 1_000, "{inside} {outside}");
-}
-
-/// Has an install of modes 4 to 6 a place at N or above?
-fn has_far_place(nodes: usize, call: &Call) -> bool {
-    let far = |place: &u8| usize::from(*place) >= nodes;
-    matches!(call, Call::Install { mode, places, .. } if has_a_list(*mode as u8) && places.iter().any(far))
 }
 
 /// With map 0 to N-1 every call answers and leaves what it did before M-103, but that such an install is refused 6.
@@ -341,7 +337,7 @@ fn maps_set(start: &Tables, calls: &[Call]) -> u64 {
 fn every_window_is_fair_with_maps() {
     for sort in [Sort::Permuted, Sort::Part] {
         let (mut total, mut outside, mut set) = (Fair::default(), 0, 0);
-        for seed in seeds(120) {
+        for seed in seeds(240) {
             let (start, calls) = list(seed, 160);
             let start = mapped(&mut Dice::new(seed), start, sort);
             outside += (0..sizes(&start).1).filter(|job| names_outside(&start, *job)).count();

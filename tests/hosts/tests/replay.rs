@@ -5,6 +5,7 @@ use hosts::{
     NUMBERS, RUBBISH,
 };
 use reference::calls::{apply, apply_without_counts, Answer, Call, Tables};
+use reference::closing::Closings;
 use reference::examples::machine_a;
 use reference::generate::{journal_parts, list, put_counts, tables, Counts, Dice, SORTS_OF_COUNTS};
 use reference::map_cases::{good_keep, good_set, put_map, SORTS};
@@ -70,17 +71,23 @@ fn lists(seed: u64) -> Vec<(String, Tables, Vec<Call>)> {
 
 #[test]
 fn a_replay_is_its_calls_one_by_one() {
-    let mut ran = 0;
+    let (mut ran, mut closings) = (0, Closings::default());
     for seed in seeds(120) {
         for (told, start, calls) in lists(seed) {
             let mut dice = Dice::new(seed);
             let words = packed(&mut dice, &calls);
             let room = calls.len() + dice.below(3);
-            ran += check(&told, &start, &words, &calls, room);
+            match check(&told, &start, &words, &calls, room) {
+                0 => {}
+                calls_run => {
+                    closings.enter_list(&start, &calls);
+                    ran += calls_run;
+                }
+            }
         }
     }
-    println!("{ran} calls replayed");
-    assert!(ran > 30_000, "{ran}");
+    println!("{ran} calls replayed, {closings:?}");
+    assert!(ran > 30_000 && closings.each_at_least(20), "{ran} {closings:?}");
 }
 
 /// "If the counts match the page table at entry, every call answers as before and they match afterwards" (M-100).

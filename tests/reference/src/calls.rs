@@ -11,8 +11,8 @@ use crate::maps::{
 use crate::masks::{folded, lies_below, remapped};
 use crate::order::{cursor_after_grant, search_order, Machine, Try};
 use crate::record::{
-    self, has_a_list, has_a_mask, read, well_formed, write, Record, BIND, DEFAULT, EARLY, INTERLEAVE, MOST_PLACES,
-    NO_FLAG, PREFERRED, RELATIVE, STATIC, WORDS,
+    self, closes, has_a_list, has_a_mask, read, well_formed, write, Record, BIND, DEFAULT, EARLY, INTERLEAVE,
+    MOST_PLACES, NO_FLAG, PREFERRED, RELATIVE, STATIC, WORDS,
 };
 
 /// What a call gives: its answer or one numbered refusal (Refusal numbers). A node is answered by the job's own number;
@@ -353,10 +353,11 @@ fn refused_6_at_install(nodes: usize, allowed: u64, mode: u8, flag: u8, mask: u6
 }
 
 /// "User masks and places are turned into system nodes at install"; "a relative mask doesn't, being ranks already"; "an
-/// application number past the map's end is 6", which is none here (M-103).
-fn turned(map: &[u8], flag: u8, mask: u64, places: &[u8]) -> Option<(u64, Vec<u8>)> {
+/// application number past the map's end is 6", which is none here (M-103). A closing 255 stands "unmapped" (M-104).
+fn turned(map: &[u8], mode: u8, flag: u8, mask: u64, places: &[u8]) -> Option<(u64, Vec<u8>)> {
     let mask = if flag == RELATIVE { mask } else { system_mask(map, mask)? };
-    Some((mask, system_places(map, places)?))
+    let (mapped, unmapped) = places.split_at(places.len() - usize::from(closes(mode, places)));
+    Some((mask, [system_places(map, mapped)?, unmapped.to_vec()].concat()))
 }
 
 /// "Effective: user and allowed (flags 0, 1) or folded (2)" (Masks, install).
@@ -433,7 +434,7 @@ fn install_with(
     };
     let (mode, flag) = (mode as u8, flag as u8);
     let in_system_nodes = match map {
-        Some(map) => turned(map, flag, mask, places),
+        Some(map) => turned(map, mode, flag, mask, places),
         None => Some((mask, places.to_vec())),
     };
     match in_system_nodes {
@@ -445,7 +446,7 @@ fn install_with(
     }
 }
 
-/// Install: refusals in the order 1, 2, 15, 4, 5, 7, 6 (Refusal numbers, Masks, M-103).
+/// Install: refusals in the order 1, 2, 15, 4, 5, 7, 6 (Refusal numbers, Masks, M-103, M-104).
 pub fn install(
     nodes: usize,
     jobs: &mut [u64],

@@ -1,5 +1,5 @@
 //! Document 01's examples and easy mistakes as one table: calls, and what 01 prints for them; a few readings of its rules;
-//! and what M-100 says of free counts, M-103 of maps.
+//! and what M-100 says of free counts, M-103 of maps, M-104 of a closing 255.
 //!
 //! This crate runs the table on the second implementation; `hosts` runs it on the linked library and the program too.
 
@@ -26,7 +26,7 @@ pub enum Step {
 }
 
 /// Steps on a machine with fresh jobs; but for M-100's examples its pages are free and its free counts match, and but for
-/// M-103's each job has map 0 to N-1.
+/// M-103's, and some of M-104's, each job has map 0 to N-1.
 #[derive(Clone, Debug, PartialEq, Eq)]
 pub struct Example {
     pub name: String,
@@ -218,6 +218,10 @@ pub fn all() -> Vec<Example> {
         map_lists(),
         bad_maps(),
         node_63_in_maps(),
+        closing_255(),
+        closing_255_is_near(),
+        closing_255_in_maps(),
+        other_255s(),
     ]
     .concat()
 }
@@ -440,7 +444,7 @@ fn places() -> Vec<Example> {
             .no_room(0),
         Example::on_a("M-103: places at N or above are refused 6 at install", RING, 0, &[3])
             .refused(install(RING, NO_FLAG, 0, &[4, 1]), 6)
-            .refused(install(LIST, NO_FLAG, 0, &[1, 255]), 6)
+            .refused(install(LIST, NO_FLAG, 0, &[1, 254]), 6)
             .refused(install(EARLY, NO_FLAG, 0, &[1, 0, 200]), 6)
             .grants(0, &[(3, 4)]),
         Example::on_a("places that are not allowed are passed over", LIST, 0, &[0, 1])
@@ -725,6 +729,109 @@ fn node_63_in_maps() -> Vec<Example> {
         .keep(&[63], &[0])
         .call(Call::Release { job: 0, page: 63 }, Answer::Released { node: None, page: 63 })
         .release(0, 0)]
+}
+
+/// M-104: "a 255 in the last place of a mode 4 list stands, unmapped, for near(CPU's node) there".
+fn closing_255() -> Vec<Example> {
+    let mut sixteen = [2; 16];
+    sixteen[15] = 255;
+    let twos = 0x0202_0202_0202_0202;
+    vec![
+        Example::on_a("M-104: list {3,255}, CPU 4: node 3, then near(2)", LIST, 0, &[3, 255])
+            .step(Step::Record([0x2_0004, 0, 0b1111, 0, 0xFF03, 0]))
+            .grants(4, &[(3, 4), (3, 5), (0, 0), (0, 1), (1, 2)])
+            .release(3, 5)
+            .grants(4, &[(3, 5), (1, 3)])
+            .cursor(0)
+            .no_room(4),
+        Example::on_a("M-104: list {255} goes by the CPU's node", LIST, 0, &[255])
+            .step(Step::Record([0x1_0004, 0, 0b1111, 0, 0xFF, 0]))
+            .grants(7, &[(3, 4)])
+            .grants(0, &[(0, 0)])
+            .grants(2, &[(1, 2)])
+            .grants(4, &[(0, 1), (3, 5), (1, 3)])
+            .no_room(4),
+        Example::on_a("M-104: 255 as the last of 16 places, and as the 17th", LIST, 0, &sixteen)
+            .refused(install(LIST, NO_FLAG, 0, &[[2; 16].to_vec(), vec![255]].concat()), 6)
+            .step(Step::Record([0x10_0004, 0, 0b1111, 0, twos, twos | 0xFF << 56]))
+            .grants(6, &[(3, 4)]),
+    ]
+}
+
+/// M-104: that near(CPU's node) is the one of default.
+fn closing_255_is_near() -> Vec<Example> {
+    let mut far_1 = fresh_a();
+    far_1.distances[9] = 255;
+    let wrong = Tables { pages: vec![0, 0, 0, 0, 6, 6], free: vec![2, 2, 0, 1], ..fresh_a() };
+    vec![
+        Example::on_a("M-104: near goes by what is allowed", LIST, 0, &[1, 255])
+            .rebind(0b1001)
+            .grants(2, &[(0, 0), (0, 1), (3, 4), (3, 5)])
+            .no_room(2),
+        Example::new("M-104: near leaves out what is out of reach", far_1)
+            .rebind(0b1111)
+            .install(LIST, NO_FLAG, 0, &[3, 255])
+            .grants(4, &[(3, 4), (3, 5), (0, 0), (0, 1)])
+            .no_room(4),
+        Example::new("M-104: a wrong count in near is 14", wrong)
+            .rebind(0b1111)
+            .install(LIST, NO_FLAG, 0, &[0, 255])
+            .grants(6, &[(0, 0), (0, 1)])
+            .wrong_count(6)
+            .grants(2, &[(1, 2), (1, 3)])
+            .wrong_count(2),
+    ]
+}
+
+/// M-104: near is over the nodes "allowed and in the map"; the 255 is "unmapped" even where the map has 64 entries.
+fn closing_255_in_maps() -> Vec<Example> {
+    let sixty_four = machine(&[1; 64], &[63], flat(64, 20));
+    vec![
+        mapped("M-104's list {2,255} in map {3,0,1}", &[3, 0, 1])
+            .install(LIST, NO_FLAG, 0, &[2, 255])
+            .step(Step::Record([0x2_0004, 0, 0b1111, 0, 0xFF01, 0]))
+            .grants(6, &[(2, 2), (2, 3), (0, 4), (0, 5), (1, 0), (1, 1)])
+            .no_room(6),
+        mapped("M-104's closing 255 tries no node that left the map", &[3, 0, 1])
+            .install(LIST, NO_FLAG, 0, &[0, 255])
+            .keep(&[0, 2], &[3, 1])
+            .grants(0, &[(0, 4), (0, 5), (1, 2), (1, 3)])
+            .no_room(0),
+        Example::new("M-104: a closing 255 beside a map without FF", sixty_four)
+            .rebind(u64::MAX)
+            .install(LIST, NO_FLAG, 0, &[1, 255])
+            .step(Step::Record([0x2_0004, 0, u64::MAX, 0, 0xFF01, 0]))
+            .grants(0, &[(1, 1), (63, 63), (0, 0), (2, 2)]),
+    ]
+}
+
+/// M-104: "elsewhere nothing changes": 6 at install; in a record handed in passed over.
+fn other_255s() -> Vec<Example> {
+    let handed_in = |name: &str, mode: u64, places: u64, length: u64| {
+        let mut start = fresh_a();
+        start.jobs[..WORDS].copy_from_slice(&[mode | length << 16, 0, 0b1111, 0, places, 0]);
+        Example::new(&format!("M-104: handed in, {name}"), start)
+    };
+    vec![
+        Example::on_a("M-104: a 255 elsewhere is 6", LIST, 0, &[3])
+            .refused(install(LIST, NO_FLAG, 0, &[255, 3]), 6)
+            .refused(install(LIST, NO_FLAG, 0, &[1, 255, 3]), 6)
+            .refused(install(LIST, NO_FLAG, 0, &[255, 255]), 6)
+            .refused(install(LIST, NO_FLAG, 0, &[4, 255]), 6)
+            .refused(install(LIST, NO_FLAG, 1, &[3, 255]), 6)
+            .refused(install(LIST, STATIC, 0, &[3, 255]), 5)
+            .refused(install(RING, NO_FLAG, 0, &[3, 255]), 6)
+            .refused(install(RING, NO_FLAG, 0, &[255]), 6)
+            .refused(install(EARLY, NO_FLAG, 0, &[3, 255]), 6)
+            .refused(install(EARLY, NO_FLAG, 0, &[255]), 6)
+            .refused(install(DEFAULT, NO_FLAG, 0, &[255]), 6)
+            .grants(0, &[(3, 4)]),
+        handed_in("list {255,1} passes over the 255", 4, 0x01FF, 2).grants(0, &[(1, 2), (1, 3)]).no_room(0),
+        handed_in("list {1,255,255} has one that closes", 4, 0xFF_FF01, 3).grants(6, &[(1, 2), (1, 3), (3, 4)]),
+        handed_in("ring {1,255} passes over the 255", 5, 0xFF01, 2).grants(0, &[(1, 2), (1, 3)]).no_room(0),
+        handed_in("early {1,255} passes over the 255", 6, 0xFF01, 2).grants(0, &[(1, 2), (1, 3)]).no_room(0),
+        handed_in("list {1,254} does not close", 4, 0xFE01, 2).grants(0, &[(1, 2), (1, 3)]).no_room(0),
+    ]
 }
 
 /// A text with N and the allowed set; the mask it stands for and how that is written, or the refusal.

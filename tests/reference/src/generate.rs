@@ -14,8 +14,8 @@ use crate::map_cases::{
 use crate::maps::identity_maps;
 use crate::masks::{all_below, folded, has, node_of_rank, size, with};
 use crate::record::{
-    fresh, has_a_list, has_a_mask, read, words, write, Record, BIND, EARLY, INTERLEAVE, LIST, MOST_PLACES, NO_FLAG,
-    PREFERRED, RELATIVE, RING, STATIC, WORDS,
+    closes, fresh, has_a_list, has_a_mask, read, words, write, Record, BIND, CLOSING, EARLY, INTERLEAVE, LIST,
+    MOST_PLACES, NO_FLAG, PREFERRED, RELATIVE, RING, STATIC, WORDS,
 };
 
 /// A small deterministic generator (splitmix64).
@@ -285,23 +285,44 @@ fn some_length(dice: &mut Dice) -> usize {
     }
 }
 
-/// Places as a record may hold them: mostly nodes of the machine, some at N or above.
+/// Places as a record may hold them: mostly nodes of the machine, some at N or above; 255 last in about half the lists.
 fn some_places(dice: &mut Dice, nodes: usize) -> Vec<u8> {
     let mut places = Vec::new();
     for _ in 0..some_length(dice) {
-        let place = match dice.below(14) {
+        let place = match dice.below(16) {
             0 => nodes as u8,
             1 => dice.byte(),
+            2 => CLOSING,
             _ => dice.below(nodes) as u8,
         };
         places.push(place);
     }
+    if dice.chance(45) {
+        put_last(dice, &mut places);
+    }
     places
 }
 
-/// Places as an install takes them: each below a map's end.
+/// Puts a 255 into the last place, or after it.
+fn put_last(dice: &mut Dice, places: &mut Vec<u8>) {
+    if places.len() == MOST_PLACES || dice.chance(30) {
+        places.pop();
+    }
+    places.push(CLOSING);
+}
+
+/// Places below a map's end.
 fn places_below(dice: &mut Dice, end: usize) -> Vec<u8> {
     (0..some_length(dice)).map(|_| dice.below(end) as u8).collect()
+}
+
+/// Places as an install of a mode takes them: each below a map's end, but for a closing 255 in mode 4 (M-104).
+fn good_places(dice: &mut Dice, end: usize, mode: u8) -> Vec<u8> {
+    let mut places = places_below(dice, end);
+    if mode == LIST && dice.chance(60) {
+        put_last(dice, &mut places);
+    }
+    places
 }
 
 /// The application nodes of a map that are in a set of system nodes.
@@ -311,7 +332,7 @@ fn seen_of(map: &[u8], set: u64) -> u64 {
 
 /// A mode, ring and interleave more often than the others.
 fn some_mode(dice: &mut Dice) -> u8 {
-    dice.pick(&[0, 1, 2, 3, 3, 3, 4, 5, 5, 5, 6, 6])
+    dice.pick(&[0, 1, 2, 3, 3, 3, 4, 4, 5, 5, 5, 6, 6])
 }
 
 /// A user mask that install takes with this flag, in the numbers of a map.
@@ -331,7 +352,7 @@ fn good_install(dice: &mut Dice, map: &[u8], job: usize, allowed: u64) -> Call {
     let mut mask = 0;
     let mut places = Vec::new();
     if has_a_list(mode) {
-        places = places_below(dice, map.len());
+        places = good_places(dice, map.len(), mode);
     }
     if has_a_mask(mode) {
         flag = dice.pick(&[NO_FLAG, STATIC, RELATIVE]);
@@ -344,11 +365,16 @@ fn good_install(dice: &mut Dice, map: &[u8], job: usize, allowed: u64) -> Call {
     Call::Install { job, mode: u64::from(mode), flag: u64::from(flag), mask, places }
 }
 
-/// Places with one at or past a map's end.
-fn far_places(dice: &mut Dice, end: usize) -> Vec<u8> {
+/// Places with one at or past a map's end that is not a closing 255 in mode 4 (M-104).
+fn far_places(dice: &mut Dice, end: usize, mode: u8) -> Vec<u8> {
     let mut places = places_below(dice, end);
-    let (at, any) = (dice.below(places.len()), dice.between(end, 255) as u8);
-    places[at] = dice.pick(&[end as u8, any, 255]);
+    let (at, any, last) = (dice.below(places.len()), dice.between(end, 255) as u8, places.len() - 1);
+    let at = dice.pick(&[at, last]);
+    places[at] = dice.pick(&[end as u8, any, CLOSING, CLOSING]);
+    if closes(mode, &places) {
+        // One 255 more, so that it does not stand last alone.
+        places.insert(at, CLOSING);
+    }
     places
 }
 
@@ -365,7 +391,7 @@ fn bad_install(dice: &mut Dice, map: &[u8], job: usize, allowed: u64) -> Call {
     let past_end = if end < 64 { 1u64 << dice.between(end, 63) } else { 0 };
     let outside = all_below(end) & !seen_of(map, allowed);
     let long = dice.pick(&[17, 18, 32, 255]);
-    let (mode, flag, mask, places) = match dice.below(16) {
+    let (mode, flag, mask, places) = match dice.below(18) {
         0 => (dice.between(7, 255) as u64, any_flag, inside, vec![]),
         1 => (mask_mode, dice.between(3, 255) as u64, inside, vec![]),
         2 => (plain_mode, 1 + low_flag, 0, if plain_mode == 0 { vec![] } else { some }),
@@ -379,7 +405,7 @@ fn bad_install(dice: &mut Dice, map: &[u8], job: usize, allowed: u64) -> Call {
         10 => (0, 0, 0, some),
         11 => (list_mode, 0, 0, vec![0; long]),
         12 => (list_mode, 0, 0, vec![dice.below(end) as u8; 17]),
-        13 | 14 => (list_mode, 0, 0, far_places(dice, end)),
+        13..=16 => (list_mode, 0, 0, far_places(dice, end, list_mode as u8)),
         _ => (list_mode, 0, 0, vec![]),
     };
     Call::Install { job, mode, flag, mask, places }
@@ -801,14 +827,17 @@ fn start_job(dice: &mut Dice, start: &mut Tables, job: usize, ring_or_interleave
     put_map(dice, start, job, sort);
 }
 
-/// A record to start a list with: ring or interleave, or anything at all.
+/// A record to start a list with: ring or interleave, or anything at all, places in order more often than others.
 fn start_record(dice: &mut Dice, nodes: usize, ring_or_interleave: bool) -> [u64; WORDS] {
     if ring_or_interleave {
         let mode = dice.pick(&[RING, INTERLEAVE]);
         let flag = if mode == RING { NO_FLAG } else { dice.below(3) as u8 };
         return good_record(dice, nodes, mode, flag);
     }
-    some_record(dice, nodes)
+    match dice.chance(40) {
+        true => good_record(dice, nodes, LIST, NO_FLAG),
+        false => some_record(dice, nodes),
+    }
 }
 
 /// Some pages held at the start, by jobs of the table or by nobody known.
@@ -1166,7 +1195,7 @@ pub fn some_record(dice: &mut Dice, nodes: usize) -> [u64; WORDS] {
         1 => garbage_record(dice),
         2..=5 => nearly_good_record(dice, nodes),
         _ => {
-            let mode = dice.below(7) as u8;
+            let mode = dice.pick(&[0, 1, 2, 3, LIST, LIST, RING, EARLY]);
             let flag = dice.below(3) as u8;
             good_record(dice, nodes, mode, flag)
         }
@@ -1284,7 +1313,7 @@ fn damage_jobs(dice: &mut Dice, tables: &mut Tables) {
 }
 
 /// A job number: mostly one of the table.
-fn some_job_number(dice: &mut Dice, tables: &Tables) -> usize {
+pub fn some_job_number(dice: &mut Dice, tables: &Tables) -> usize {
     let count = tables.jobs.len() / WORDS;
     match dice.below(20) {
         0 => count,

@@ -1,11 +1,11 @@
 //! M-103 beside the rules before it: with map 0 to N-1 every call answers as before, but for a place at N or above, which an
-//! install of modes 4 to 6 now refuses 6.
+//! install of modes 4 to 6 now refuses 6. M-104's closing 255 is no such place: it stands as it is, with maps and without.
 
 use crate::calls::{apply_with, apply_without_maps, Answer, Call, Tables};
 use crate::generate::{case, journal_parts, list, put_counts, tables, Case, Dice, SORTS_OF_COUNTS};
-use crate::map_cases::good_set;
+use crate::map_cases::{good_set, has_far_place};
 use crate::maps::identity_maps;
-use crate::record::{has_a_list, WORDS};
+use crate::record::WORDS;
 
 /// What calls with identity maps showed.
 #[derive(Default, Debug)]
@@ -16,16 +16,6 @@ struct Shown {
     refused: u64,
     /// Installs that were done before M-103 and are refused 6 now.
     far_places: u64,
-}
-
-/// An install that has a place at N or above.
-fn has_far_place(nodes: usize, call: &Call) -> bool {
-    match call {
-        Call::Install { mode, places, .. } => {
-            has_a_list(*mode as u8) && places.iter().any(|place| usize::from(*place) >= nodes)
-        }
-        _ => false,
-    }
 }
 
 /// Makes the calls with identity maps and without maps.

@@ -1,4 +1,4 @@
-//! The second, independent implementation of document 01, as document 02 amends it: M-100 to M-103.
+//! The second, independent implementation of document 01, as document 02 amends it: M-100 to M-104.
 //!
 //! Written from the papers alone, to be compared with the real one byte for
 //! byte. Plain and slow on purpose: every function is named after the papers'
@@ -7,6 +7,7 @@
 #![forbid(unsafe_code)]
 
 pub mod calls;
+pub mod closing;
 pub mod examples;
 pub mod fair;
 pub mod generate;
@@ -17,6 +18,9 @@ pub mod maps;
 pub mod masks;
 pub mod near;
 pub mod near_cases;
+pub mod note_cases;
+pub mod note_examples;
+pub mod notes;
 pub mod order;
 pub mod program;
 pub mod record;

@@ -4,7 +4,7 @@ use crate::calls::{Call, Tables};
 use crate::generate::Dice;
 use crate::maps::{entries, is_good, map_of, map_with, END, MAP_BYTES};
 use crate::masks::{all_below, has};
-use crate::record::WORDS;
+use crate::record::{closes, has_a_list, WORDS};
 
 /// The sorts of maps (M-103).
 #[derive(Clone, Copy, Debug, PartialEq, Eq, PartialOrd, Ord)]
@@ -161,6 +161,13 @@ pub fn numbers_of(tables: &Tables, job: usize) -> Vec<u8> {
         return entries(map_of(&tables.maps, job)).to_vec();
     }
     (0..nodes.clamp(1, 64)).map(|node| node as u8).collect()
+}
+
+/// Has an install of modes 4 to 6 a place at N or above? A closing 255 in mode 4 is none (M-104).
+pub fn has_far_place(nodes: usize, call: &Call) -> bool {
+    let Call::Install { mode, places, .. } = call else { return false };
+    let named = &places[..places.len() - usize::from(closes(*mode as u8, places))];
+    has_a_list(*mode as u8) && named.iter().any(|place| usize::from(*place) >= nodes)
 }
 
 /// Some application nodes of a map with so many entries, rising.

@@ -2,12 +2,12 @@
 
 use crate::machine::{NEAREST, UNREACHABLE};
 use crate::masks::{has, lowest, lowest_above};
-use crate::record::{Record, BIND, EARLY, INTERLEAVE, LIST, PREFERRED, RING, STATIC};
+use crate::record::{closes, places_of, Record, BIND, EARLY, INTERLEAVE, LIST, PREFERRED, RING, STATIC};
 
 /// Where in the order a node stands (Search order).
 #[derive(Clone, Copy, Debug, PartialEq, Eq)]
 pub enum Part {
-    /// From near(x): modes 0 to 3.
+    /// From near(x): modes 0 to 3, and a closing 255 in mode 4 (M-104).
     Near,
     /// A place of a list: modes 4 to 6.
     Place(usize),
@@ -132,6 +132,16 @@ fn list_turn(length: usize) -> Vec<usize> {
     turn
 }
 
+/// "List: places in order" (Search order); "a 255 in the last place of a mode 4 list stands, unmapped, for near(CPU's node)
+/// there" (M-104). As a place it names no node of the machine.
+fn list(machine: Machine, record: &Record, limit: u64, cpu_node: usize) -> Vec<Try> {
+    let mut tries = tries_of_places(machine.nodes, record, limit, &list_turn(usize::from(record.length)));
+    if closes(record.mode, places_of(record)) {
+        tries.extend(as_near(near(machine, limit, cpu_node)));
+    }
+    tries
+}
+
 /// "Ring: places from one past the cursor, once round; from place 0 with no cursor" (Search order).
 pub fn ring_turn(length: usize, cursor_field: u8) -> Vec<usize> {
     let mut turn = Vec::new();
@@ -175,7 +185,7 @@ pub fn search_order(machine: Machine, record: &Record, limit: u64, cpu: usize) -
         PREFERRED => as_near(preferred(machine, record, limit, cpu_node)),
         BIND => as_near(bind(machine, record, limit, cpu_node)),
         INTERLEAVE => as_near(interleave(machine, record, limit)),
-        LIST => tries_of_places(machine.nodes, record, limit, &list_turn(length)),
+        LIST => list(machine, record, limit, cpu_node),
         RING => tries_of_places(machine.nodes, record, limit, &ring_turn(length, record.cursor)),
         EARLY => tries_of_places(machine.nodes, record, limit, &early_turn(length, record.cursor)),
         _ => as_near(near(machine, limit, cpu_node)),
@@ -233,6 +243,33 @@ mod tests {
         assert_eq!(early_turn(3, 1), vec![0, 1, 2, 0]);
         assert_eq!(early_turn(3, 2), vec![0, 2, 0, 1]);
         assert_eq!(early_turn(1, 1), vec![0, 0]);
+    }
+
+    /// A mode and these places.
+    fn places(mode: u8, list: &[u8]) -> Record {
+        let mut record = fresh();
+        record.mode = mode;
+        record.length = list.len() as u8;
+        record.places[..list.len()].copy_from_slice(list);
+        record
+    }
+
+    #[test]
+    fn a_closing_255_is_near_the_cpus_node_in_mode_4_alone() {
+        let machine = Machine { nodes: 3, cpus: &[2], distances: &[10, 20, 30, 20, 10, 255, 30, 20, 10] };
+        let nodes = |mode, list: &[u8], limit| {
+            let order = search_order(machine, &places(mode, list), limit, 0);
+            order.iter().map(|one| one.node).collect::<Vec<usize>>()
+        };
+        assert_eq!(nodes(LIST, &[0, 255], 0b111), vec![0, 2, 1, 0]);
+        assert_eq!(nodes(LIST, &[255], 0b111), vec![2, 1, 0]);
+        assert_eq!(nodes(LIST, &[1, 255, 0, 255], 0b011), vec![1, 0, 1, 0]);
+        assert_eq!(nodes(LIST, &[255, 0], 0b111), vec![0]);
+        assert_eq!(nodes(LIST, &[0, 254], 0b111), vec![0]);
+        assert_eq!(nodes(RING, &[0, 255], 0b111), vec![0]);
+        assert_eq!(nodes(EARLY, &[1, 255], 0b111), vec![1, 1]);
+        let near = Try { node: 2, part: Part::Near };
+        assert_eq!(cursor_after_grant(&places(LIST, &[0, 255]), near), 0);
     }
 
     #[test]

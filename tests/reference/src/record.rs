@@ -165,6 +165,19 @@ fn masks_are_good(nodes: usize, record: &Record) -> bool {
     }
 }
 
+/// "a 255 in the last place of a mode 4 list" (M-104).
+pub const CLOSING: u8 = 255;
+
+/// Is there "a 255 in the last place of a mode 4 list"? (M-104)
+pub fn closes(mode: u8, places: &[u8]) -> bool {
+    mode == LIST && places.last() == Some(&CLOSING)
+}
+
+/// The places of a record, without the unused ones (A job's record).
+pub fn places_of(record: &Record) -> &[u8] {
+    &record.places[..usize::from(record.length).min(MOST_PLACES)]
+}
+
 /// Modes 4 to 6 carry places (A job's record, table).
 pub fn has_a_list(mode: u8) -> bool {
     mode == LIST || mode == RING || mode == EARLY

@@ -316,6 +316,30 @@ fn install_6() {
     }
 }
 
+/// "a 255 in the last place of a mode 4 list"; "elsewhere nothing changes" (M-104). The order of refusals stays.
+#[test]
+fn install_of_a_closing_255() {
+    let closing = [1, 255];
+    for mode in 0..7 {
+        let mut tables = machine_a();
+        let answer = if mode == 4 { Answer::Done } else { Answer::Refused(6) };
+        assert_eq!(apply(&mut tables, &install(mode, 0, 0, &closing)), answer, "mode {mode}");
+    }
+    refused(&a_with(|t| t.jobs[2] = 0), 4, install(4, 0, 0, &closing), 7);
+    refused(&a_with(|t| t.jobs[0] = 7), 4, install(4, 0, 0, &closing), 4);
+    refused(&machine_a(), 4, install(4, 1, 0, &closing), 5);
+    refused(&machine_a(), 4, install(4 + 256, 0, 0, &closing), 5);
+    refused(&machine_a(), 4, install(4, 0, 1, &closing), 6);
+    refused(&machine_a(), 4, install(4, 0, 0, &[4, 255]), 6);
+    refused(&machine_a(), 4, install(4, 0, 0, &[255; 2]), 6);
+    refused(&machine_a(), 4, install(4, 0, 0, &[255; 16]), 6);
+    refused(&machine_a(), 4, install(4, 0, 0, &[[1; 16].to_vec(), vec![255]].concat()), 6);
+    refused(&a_mapped(&[3, 3]), 4, install(4, 0, 0, &closing), 15);
+    let mut tables = a_mapped(&[3, 0]);
+    assert_eq!(apply(&mut tables, &install(4, 0, 0, &closing)), Answer::Done);
+    assert_eq!(tables.jobs[..6], [0x2_0004, 0, 0b1111, 0, 0xFF00, 0]);
+}
+
 #[test]
 fn install_leaves_exactly_the_record() {
     let mut tables = machine_a();

@@ -24,6 +24,7 @@ pub fn refusal_words(number: u8) -> &'static str {
         13 => "damaged journal",
         14 => "a free count disagrees with the page table",
         15 => "the map, or the list of nodes, isn't a good one",
+        16 => "the note, or a list of names, isn't a good one",
         _ => "a number that the papers do not have",
     }
 }
@@ -34,6 +35,13 @@ pub struct Reply {
     pub refusal: u8,
     pub node: u8,
     pub page: u32,
+}
+
+/// What is told of a line: a call's answer, or words.
+#[derive(Clone, Debug, PartialEq, Eq)]
+pub enum Told {
+    Reply(Reply),
+    Words(String),
 }
 
 /// The kind that answers a call: its record's own.
@@ -50,6 +58,11 @@ fn fields(bytes: &[u8]) -> Option<(u8, Reply)> {
     Some((bytes[2], Reply { refusal: bytes[3], node: bytes[4], page }))
 }
 
+/// A refusal in the papers' words.
+pub fn refused_words(refusal: u8) -> String {
+    format!("refused {refusal}: {}", refusal_words(refusal))
+}
+
 /// What an answer says of its call, entered in the page table.
 fn said(call: &Call, reply: Reply, pages: &mut [u8]) -> Result<String, String> {
     let Reply { refusal, node, page } = reply;
@@ -58,7 +71,7 @@ fn said(call: &Call, reply: Reply, pages: &mut [u8]) -> Result<String, String> {
         if !nowhere {
             return Err(String::from("a refusal that names no node and no page"));
         }
-        return Ok(format!("refused {refusal}: {}", refusal_words(refusal)));
+        return Ok(refused_words(refusal));
     }
     let (byte, words) = match call {
         Call::Request { job, .. } if node != 0xFF => (*job as u8 + 1, format!("node {node}, page {page}")),
@@ -91,8 +104,12 @@ impl Telling<'_> {
     }
 
     /// Adds a line with its answer, and the nodes after it.
-    fn line(&mut self, line: &Line, reply: Reply) -> Result<(), String> {
-        let answer = said(&line.call, reply, &mut self.pages)?;
+    fn line(&mut self, line: &Line, told: &Told) -> Result<(), String> {
+        let answer = match (told, line.call()) {
+            (Told::Reply(reply), Some(call)) => said(call, *reply, &mut self.pages)?,
+            (Told::Words(words), None) => words.clone(),
+            _ => return Err(String::from("an answer for a call, words for another line")),
+        };
         let (wide, nodes) = (self.wide, strip(&self.script.machine.counts, &self.pages));
         self.lines.push_str(&format!("{:4}  {:wide$}  {nodes}  {answer}\n", line.number, line.text));
         Ok(())
@@ -123,10 +140,11 @@ pub fn told(script: &Script, answers: &[u8]) -> Result<String, String> {
             telling.lines.push_str(&stopped);
             break;
         }
-        if kind != kind_of(&line.call) {
-            return Err(wrong(&format!("kind {}, found {kind}", kind_of(&line.call))));
+        let asked = line.call().map(kind_of).ok_or_else(|| wrong("a call that a journal has"))?;
+        if kind != asked {
+            return Err(wrong(&format!("kind {asked}, found {kind}")));
         }
-        telling.line(line, reply).map_err(|expected| wrong(&expected))?;
+        telling.line(line, &Told::Reply(reply)).map_err(|expected| wrong(&expected))?;
     }
     if rest.next().is_some() {
         return Err(String::from("expected no more answers than calls"));
@@ -134,14 +152,14 @@ pub fn told(script: &Script, answers: &[u8]) -> Result<String, String> {
     Ok(telling.end())
 }
 
-/// The script with an answer for each of its lines, and the nodes at the end.
-pub fn told_replies(script: &Script, replies: &[Reply]) -> Result<String, String> {
+/// The script with what is told of each of its lines, and the nodes at the end.
+pub fn told_lines(script: &Script, told: &[Told]) -> Result<String, String> {
     let mut telling = Telling::new(script);
-    if script.lines.len() != replies.len() {
-        return Err(format!("expected {} answers, found {}", script.lines.len(), replies.len()));
+    if script.lines.len() != told.len() {
+        return Err(format!("expected {} answers, found {}", script.lines.len(), told.len()));
     }
-    for (index, (line, reply)) in script.lines.iter().zip(replies).enumerate() {
-        telling.line(line, *reply).map_err(|expected| wrong(index, line, &expected))?;
+    for (index, (line, told)) in script.lines.iter().zip(told).enumerate() {
+        telling.line(line, told).map_err(|expected| wrong(index, line, &expected))?;
     }
     Ok(telling.end())
 }

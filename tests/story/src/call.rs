@@ -1,14 +1,17 @@
-//! One call of a script.
+//! One line of a script after the machine: a call, names or a note.
 
 use reference::calls::{Call, Tables};
 use reference::maps::{application_node, entries, map_of};
 use reference::masks::{has, with};
 use reference::record::{read, WORDS};
 use reference::text::read_nodes;
+use spirerivet::which;
 
-/// What a line of calls begins with.
-const CALLS: &str = "`request`, `release`, `rebind`, `install`, `clear`, `map` or `keep`";
-const MODES: &str = "a mode: `default`, `preferred`, `bind`, `interleave`, `list`, `ring` or `early`";
+use crate::script::Step;
+
+/// What a line begins with.
+const CALLS: &str = "`request`, `release`, `rebind`, `install`, `clear`, `map`, `keep`, `names` or `note`";
+const MODES: &str = "a mode: `default`, `preferred`, `bind`, `interleave`, `list`, `ring` or `early`, or `note`";
 
 /// A plain number up to a limit.
 pub fn number(word: &str, most: u64) -> Option<u64> {
@@ -84,8 +87,38 @@ fn list_of(word: &str) -> Result<Vec<u8>, String> {
     }
 }
 
+/// Names with their zeros, end to end.
+fn laid_out(names: &[&str]) -> Vec<u8> {
+    names.iter().flat_map(|name| name.bytes().chain([0])).collect()
+}
+
+/// A note: a file, or names after `text`, up to the first `data`, and after that.
+fn read_note(words: &[&str]) -> Result<Step, String> {
+    match words {
+        ["text", names @ ..] => {
+            let end = names.iter().position(|name| *name == "data").unwrap_or(names.len());
+            Ok(Step::Note(laid_out(&names[..end]), laid_out(names.get(end + 1..).unwrap_or(&[]))))
+        }
+        ["data", names @ ..] => Ok(Step::Note(Vec::new(), laid_out(names))),
+        [file] => Ok(Step::NoteFile(file.to_string())),
+        _ => Err(String::from("`note FILE`, or `note text NAMES data NAMES` or one of the two lists")),
+    }
+}
+
+/// What the words of a line say, or what was expected.
+pub fn read_step(words: &[&str], book: &Tables) -> Result<Step, String> {
+    match words {
+        ["names", names @ ..] => Ok(Step::Names(laid_out(names))),
+        ["note", note @ ..] => read_note(note),
+        ["install", job, "note", "text"] => Ok(Step::InstallNote { job: job_of(job)?, which: which::TEXT }),
+        ["install", job, "note", "data"] => Ok(Step::InstallNote { job: job_of(job)?, which: which::DATA }),
+        ["install", _, "note", ..] => Err(String::from("`text` or `data` after `note`")),
+        _ => read_call(words, book).map(Step::Call),
+    }
+}
+
 /// The call that the words of a line say, or what was expected.
-pub fn read_call(words: &[&str], book: &Tables) -> Result<Call, String> {
+fn read_call(words: &[&str], book: &Tables) -> Result<Call, String> {
     match words {
         ["request", job, "cpu", cpu] => {
             Ok(Call::Request { job: job_of(job)?, cpu: needed(cpu, "a CPU", 255)? as usize })

@@ -15,7 +15,11 @@
 //! keep 0 0,2                      # the tenant: the job keeps its nodes 0 and 2, which become 0 and 1
 //! install 0 default               # default, or preferred alone: local
 //! install 0 interleave 1-3 static # preferred, bind, interleave: node list; static, relative or nothing
-//! install 0 ring 3,3,1            # list, ring, early: places
+//! install 0 ring 3,3,1            # list, ring, early: places; the last of a list may be 255
+//! names SRAM DRAM0 FLASH DRAM1    # of each node, for programs that name their memory
+//! note text SRAM ANY data DRAM0   # a note of a text and a data list, or of one
+//! note bash.memtypes              # a note in a file beside the script
+//! install 0 note text             # the note's text or data list as places; the default if it has none
 //! request 0 cpu 4
 //! release 0 page 5
 //! clear 0
@@ -24,7 +28,8 @@
 //! Node lists are document 01's, `all` and `+` by what the job is allowed at
 //! that line; `none` is the empty set. A relative mask may name 0 to 63.
 //! The node numbers of `install` and `keep` and of answers are the job's own;
-//! until a `map` line they are the machine's. A journal has no `map` or `keep`.
+//! until a `map` line they are the machine's. A journal has no `map` or `keep`,
+//! and no names and notes.
 
 #![forbid(unsafe_code)]
 

@@ -1,6 +1,7 @@
 //! `story run`, `story journal` and `story answers`: a placer's runs for people.
 
 use std::io::{Read, Write};
+use std::path::{Path, PathBuf};
 use std::process::ExitCode;
 
 use story::answers::told;
@@ -9,7 +10,7 @@ use story::script::{journal, read_script, Script};
 
 const USAGE: &str = "usage:
   story run SCRIPT                   the script run by the library, with its answers, and the nodes as they fill up
-  story journal < SCRIPT > JOURNAL   a script without `map` and `keep` as a journal
+  story journal < SCRIPT > JOURNAL   a script without `map`, `keep`, `names` and notes as a journal
   story answers SCRIPT < ANSWERS     the script with a journal's answers, and the nodes as they fill up";
 
 fn main() -> ExitCode {
@@ -46,9 +47,11 @@ fn script_in(bytes: Vec<u8>) -> Result<Script, String> {
     read_script(&text).map_err(|fault| fault.to_string())
 }
 
-/// The script in a file.
+/// The script in a file; the files that it names stand beside it.
 fn script_at(path: &str) -> Result<Script, String> {
-    script_in(std::fs::read(path).map_err(|error| format!("{path}: {error}"))?)
+    let script = script_in(std::fs::read(path).map_err(|error| format!("{path}: {error}"))?)?;
+    let folder = Path::new(path).parent().map_or_else(PathBuf::new, Path::to_path_buf);
+    Ok(Script { folder, ..script })
 }
 
 /// `story run SCRIPT`.

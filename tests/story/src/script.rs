@@ -1,19 +1,47 @@
 //! A script: the machine first, then one call a line.
 
 use std::fmt;
+use std::path::PathBuf;
 
 use reference::calls::{apply, Call, Tables};
 use reference::journal::{call_bytes, machine_bytes};
 
-use crate::call::read_call;
+use crate::call::read_step;
 use crate::machine::Reader;
 
-/// A line of calls, as written.
+/// What a line does.
+#[derive(Clone, Debug, PartialEq, Eq)]
+pub enum Step {
+    Call(Call),
+    /// The names of the nodes, with their zeros, end to end.
+    Names(Vec<u8>),
+    /// A note in a file.
+    NoteFile(String),
+    /// A note of a text and a data list, each laid out like the names.
+    Note(Vec<u8>, Vec<u8>),
+    /// A job's policy by a list of the note: which is the library's number for it.
+    InstallNote {
+        job: usize,
+        which: u64,
+    },
+}
+
+/// A line, as written.
 #[derive(Clone, Debug, PartialEq, Eq)]
 pub struct Line {
     pub number: usize,
     pub text: String,
-    pub call: Call,
+    pub step: Step,
+}
+
+impl Line {
+    /// The call of a line that is one call.
+    pub fn call(&self) -> Option<&Call> {
+        match &self.step {
+            Step::Call(call) => Some(call),
+            _ => None,
+        }
+    }
 }
 
 /// A whole script.
@@ -22,6 +50,8 @@ pub struct Script {
     pub name: String,
     pub machine: Tables,
     pub lines: Vec<Line>,
+    /// Where its files are.
+    pub folder: PathBuf,
 }
 
 /// Where a script is wrong, and what would be right.
@@ -78,22 +108,27 @@ pub fn read_script(text: &str) -> Result<Script, Fault> {
     let mut book = machine.clone();
     let mut read = Vec::new();
     for line in reader.lines {
-        let call = read_call(&line.words, &book).map_err(|expected| line.fault(expected))?;
-        apply(&mut book, &call);
-        read.push(Line { number: line.number, text: line.text(), call });
+        let step = read_step(&line.words, &book).map_err(|expected| line.fault(expected))?;
+        // A policy by a note changes neither what the job is allowed nor its map.
+        if let Step::Call(call) = &step {
+            apply(&mut book, call);
+        }
+        read.push(Line { number: line.number, text: line.text(), step });
     }
-    Ok(Script { name, machine, lines: read })
+    Ok(Script { name, machine, lines: read, folder: PathBuf::new() })
 }
 
-/// The journal of a script, which may have no call of maps.
+/// The journal of a script, which may have no call of maps, no names and no notes.
 pub fn journal(script: &Script) -> Result<Vec<u8>, Fault> {
     let mut bytes = machine_bytes(&script.machine);
     for line in &script.lines {
-        if line.call.is_of_maps() {
-            let expected = String::from("a call that a journal has (`story run` takes every script)");
-            return Err(Fault { line: line.number, expected, found: format!("`{}`", line.text) });
+        match line.call() {
+            Some(call) if !call.is_of_maps() => bytes.extend(call_bytes(call)),
+            _ => {
+                let expected = String::from("a call that a journal has (`story run` takes every script)");
+                return Err(Fault { line: line.number, expected, found: format!("`{}`", line.text) });
+            }
         }
-        bytes.extend(call_bytes(&line.call));
     }
     Ok(bytes)
 }

@@ -3,10 +3,11 @@
 use std::io::Write;
 use std::process::{Command, Stdio};
 
-use reference::calls::{apply, Answer, Call};
+use reference::calls::{apply, Answer, Call, Tables};
 use reference::journal::{read_journal, run};
-use story::answers::{told, told_replies, Reply};
-use story::script::{journal, read_script};
+use reference::notes::{name, note_places, write_note};
+use story::answers::{refused_words, told, told_lines, Reply, Told};
+use story::script::{journal, read_script, Script, Step};
 
 const MACHINE_A: &str = "machine A
 pages 2 2 0 2
@@ -27,8 +28,13 @@ fn calls(lines: &str) -> Vec<Call> {
     let script = read_script(&on_a(lines)).unwrap();
     let (machine, calls) = read_journal(&journal(&script).unwrap()).unwrap();
     assert_eq!(machine, script.machine);
-    assert_eq!(calls, script.lines.into_iter().map(|line| line.call).collect::<Vec<Call>>());
+    assert_eq!(calls, calls_of(&script));
     calls
+}
+
+/// The calls of a script that has no other lines.
+fn calls_of(script: &Script) -> Vec<Call> {
+    script.lines.iter().map(|line| line.call().expect("a call").clone()).collect()
 }
 
 /// The script told with the answers that the rules give.
@@ -37,21 +43,86 @@ fn story(script: &str) -> String {
     told(&script, &run(&journal(&script).unwrap())).unwrap()
 }
 
-/// The script told with the answers that the rules give, call by call.
+/// A call by the rules.
+fn reply(tables: &mut Tables, call: &Call) -> Reply {
+    let (refusal, node, page) = match apply(tables, call) {
+        Answer::Granted { node, page } => (0, node.0, page),
+        Answer::Released { node, page } => (0, node.map_or(0xFF, |node| node.0), page),
+        Answer::Done => (0, 0xFF, u32::MAX),
+        Answer::Refused(number) => (number, 0xFF, u32::MAX),
+    };
+    Reply { refusal, node, page }
+}
+
+/// A script's tables, the names of the nodes and the note, kept by the rules.
+struct Book {
+    tables: Tables,
+    names: Vec<u8>,
+    note: Vec<u8>,
+}
+
+impl Book {
+    /// The places of a list.
+    fn places(&self, names: &[u8], note: &[u8], job: usize, which: u64) -> Result<Vec<u8>, u8> {
+        let (mut out, Tables { counts, jobs, maps, .. }) = ([0; 16], &self.tables);
+        let length = note_places(counts.len(), jobs, maps, names, note, job, which, &mut out)?;
+        Ok(out[..length].to_vec())
+    }
+
+    /// The names of the note, told.
+    fn told_note(&self) -> String {
+        let parts = (0..).map(|k| name(&self.note, k)).take_while(|part| part.len != 0);
+        let names: Vec<&[u8]> = parts.map(|part| &self.note[part.start..part.start + part.len]).collect();
+        let told = if names.is_empty() { b"no names".to_vec() } else { names.join(&b' ') };
+        format!("{} bytes: {}", self.note.len(), String::from_utf8(told).unwrap())
+    }
+
+    /// What a line that is not one call does.
+    fn words(&mut self, step: &Step) -> Result<String, u8> {
+        match step {
+            Step::Call(call) => panic!("{call:?}"),
+            Step::Names(names) => {
+                self.places(names, &[0; 16], 0, 0)?;
+                self.names = names.clone();
+                return Ok(String::from("done"));
+            }
+            Step::Note(text, data) => {
+                let mut out = vec![0; 1_000];
+                let length = write_note(text, data, &mut out)?;
+                self.note = out[..length].to_vec();
+            }
+            Step::NoteFile(file) => self.note = std::fs::read(format!("scripts/{file}")).unwrap(),
+            Step::InstallNote { job, which } => {
+                let places = self.places(&self.names, &self.note, *job, *which)?;
+                let list: Vec<String> = places.iter().map(u8::to_string).collect();
+                let (mode, policy) = if list.is_empty() {
+                    (0, String::from("default"))
+                } else {
+                    (4, format!("list {}", list.join(",")))
+                };
+                let install = Call::Install { job: *job, mode, flag: 0, mask: 0, places };
+                return Ok(match reply(&mut self.tables, &install).refusal {
+                    0 => format!("{policy}: done"),
+                    refusal => format!("{policy}: {}", refused_words(refusal)),
+                });
+            }
+        }
+        Ok(self.told_note())
+    }
+}
+
+/// The script told with the answers that the rules give, line by line.
 fn by_the_rules(script: &str) -> String {
     let script = read_script(script).unwrap();
-    let mut tables = script.machine.clone();
-    let mut replies = Vec::new();
+    let mut book = Book { tables: script.machine.clone(), names: Vec::new(), note: Vec::new() };
+    let mut told = Vec::new();
     for line in &script.lines {
-        let (refusal, node, page) = match apply(&mut tables, &line.call) {
-            Answer::Granted { node, page } => (0, node.0, page),
-            Answer::Released { node, page } => (0, node.map_or(0xFF, |node| node.0), page),
-            Answer::Done => (0, 0xFF, u32::MAX),
-            Answer::Refused(number) => (number, 0xFF, u32::MAX),
-        };
-        replies.push(Reply { refusal, node, page });
+        told.push(match line.call() {
+            Some(call) => Told::Reply(reply(&mut book.tables, call)),
+            None => Told::Words(book.words(&line.step).unwrap_or_else(refused_words)),
+        });
     }
-    told_replies(&script, &replies).unwrap()
+    told_lines(&script, &told).unwrap()
 }
 
 #[test]
@@ -103,14 +174,20 @@ fn every_sort_of_line() {
     assert_eq!(calls(lines), expected);
 }
 
-const MODES: &str = "a mode: `default`, `preferred`, `bind`, `interleave`, `list`, `ring` or `early`";
+const MODES: &str = "a mode: `default`, `preferred`, `bind`, `interleave`, `list`, `ring` or `early`, or `note`";
+const NOTES: &str = "`note FILE`, or `note text NAMES data NAMES` or one of the two lists";
 const AFTER_BIND: &str = "a node list after `bind`, then `static`, `relative` or nothing";
 const LISTS: &str = "such as `0-3,5`, `!2`, `+0-1`, `all` or `none` in place of";
 
 #[test]
 fn bad_lines_say_where_and_what() {
     for (line, expected) in [
-        ("ask 0", "`request`, `release`, `rebind`, `install`, `clear`, `map` or `keep`"),
+        ("ask 0", "`request`, `release`, `rebind`, `install`, `clear`, `map`, `keep`, `names` or `note`"),
+        ("note", NOTES),
+        ("note A B", NOTES),
+        ("install 0 note", "`text` or `data` after `note`"),
+        ("install 0 note text data", "`text` or `data` after `note`"),
+        ("install 256 note text", "a job from 0 to 255 in place of `256`"),
         ("map 0", "`map JOB NODES`"),
         ("map 0 3 1", "`map JOB NODES`"),
         ("keep 0", "`keep JOB NODES`"),
@@ -179,6 +256,67 @@ fn the_story_of_two_tenants_with_maps() {
     assert_eq!(journal(&script).unwrap_err().to_string(), no_record);
 }
 
+/// The script at a path, its files beside it.
+fn at_scripts(script: &str) -> Script {
+    Script { folder: "scripts".into(), ..read_script(script).unwrap() }
+}
+
+#[test]
+fn the_story_of_programs_that_name_their_memory() {
+    let (script, told) = (include_str!("../scripts/notes.txt"), include_str!("../scripts/notes.told.txt"));
+    assert_eq!(by_the_rules(script), told);
+    let script = at_scripts(script);
+    assert_eq!(story::run::run(&script).unwrap(), told);
+    let fault = journal(&script).unwrap_err().to_string();
+    assert!(fault.starts_with("line 11: expected a call that a journal has"), "{fault}");
+}
+
+#[test]
+fn names_and_notes_of_a_script() {
+    let lines = "names A B\nnames\nnote text A ANY data B\nnote text text data data text\nnote data A\nnote text\n\
+        note a/file\ninstall 7 note text\ninstall 255 note data\n";
+    let script = read_script(&on_a(lines)).unwrap();
+    let note = |text: &[u8], data: &[u8]| Step::Note(text.to_vec(), data.to_vec());
+    let expected = vec![
+        Step::Names(b"A\0B\0".to_vec()),
+        Step::Names(vec![]),
+        note(b"A\0ANY\0", b"B\0"),
+        note(b"text\0", b"data\0text\0"),
+        note(b"", b"A\0"),
+        note(b"", b""),
+        Step::NoteFile(String::from("a/file")),
+        Step::InstallNote { job: 7, which: 0 },
+        Step::InstallNote { job: 255, which: 1 },
+    ];
+    assert_eq!(script.lines.iter().map(|line| line.step.clone()).collect::<Vec<Step>>(), expected);
+    let missing = story::run::run(&script).unwrap_err();
+    assert!(missing.starts_with("a/file: "), "{missing}");
+}
+
+/// Without names for the nodes a list has no places, and without a note there is none: 1, then 16.
+#[test]
+fn refused_names_and_notes_leave_those_that_there_were() {
+    let lines =
+        "install 0 note text\nnames A B C D\ninstall 0 note text\nnote text A data\nrebind 0 0-3\nnames A B ANY D\n\
+        note text any\ninstall 0 note text\ninstall 0 note data\nrequest 0 cpu 6\n";
+    let script = on_a(lines);
+    let told = story::run::run(&read_script(&script).unwrap()).unwrap();
+    assert_eq!(by_the_rules(&script), told);
+    for (line, end) in [
+        (8, "refused 1: machine tables or job table length break the rules"),
+        (10, "refused 16: the note, or a list of names, isn't a good one"),
+        (11, "18 bytes: A"),
+        (13, "refused 1: machine tables or job table length break the rules"),
+        (14, "refused 16: the note, or a list of names, isn't a good one"),
+        (15, "list 0: done"),
+        (16, "default: done"),
+    ] {
+        let start = format!("{line:4}  ");
+        let found = told.lines().find(|told| told.starts_with(&start)).unwrap();
+        assert!(found.ends_with(end), "{found}");
+    }
+}
+
 /// Lists of an install go by the job's own numbers: below its map's end, `all` and `+` by what it is allowed of the map.
 #[test]
 fn node_numbers_are_the_jobs_own_once_it_has_a_map() {
@@ -202,7 +340,7 @@ fn node_numbers_are_the_jobs_own_once_it_has_a_map() {
         Call::KeepNodes { job: 255, kept: vec![7, 255] },
         Call::Install { job: 255, mode: 2, flag: 0, mask: 0b1000, places: vec![] },
     ];
-    assert_eq!(script.lines.into_iter().map(|line| line.call).collect::<Vec<Call>>(), expected);
+    assert_eq!(calls_of(&script), expected);
     let fault = read_script(&on_a("rebind 1 0-2\nmap 1 3,2\ninstall 1 bind 2\n")).unwrap_err();
     assert_eq!(fault.to_string(), format!("line 10: expected nodes below 2 {LISTS} `2`, found `install 1 bind 2`"));
 }
@@ -210,12 +348,14 @@ fn node_numbers_are_the_jobs_own_once_it_has_a_map() {
 #[test]
 fn bad_replies_say_where_and_what() {
     let script = read_script(&on_a("rebind 0 0-3\nrequest 0 cpu 0\n")).unwrap();
-    let done = Reply { refusal: 0, node: 0xFF, page: u32::MAX };
-    let message = |reply| told_replies(&script, &[done, reply]).unwrap_err();
-    assert_eq!(told_replies(&script, &[done]).unwrap_err(), "expected 2 answers, found 1");
-    assert_eq!(message(done), "answer 1 (line 9): expected a node of the job's map");
-    let far = Reply { refusal: 0, node: 0, page: 6 };
+    let done = Told::Reply(Reply { refusal: 0, node: 0xFF, page: u32::MAX });
+    let message = |told| told_lines(&script, &[done.clone(), told]).unwrap_err();
+    assert_eq!(told_lines(&script, &[done.clone()]).unwrap_err(), "expected 2 answers, found 1");
+    assert_eq!(message(done.clone()), "answer 1 (line 9): expected a node of the job's map");
+    let far = Told::Reply(Reply { refusal: 0, node: 0, page: 6 });
     assert_eq!(message(far), "answer 1 (line 9): expected a page of this machine");
+    let words = Told::Words(String::from("done"));
+    assert_eq!(message(words), "answer 1 (line 9): expected an answer for a call, words for another line");
 }
 
 #[test]
@@ -298,6 +438,10 @@ fn the_program() {
     let (good, lines, _) = program(&["run", maps], b"");
     assert!(good);
     assert_eq!(lines, include_bytes!("../scripts/maps.told.txt"));
+    let notes = concat!(env!("CARGO_MANIFEST_DIR"), "/scripts/notes.txt");
+    let (good, lines, _) = program(&["run", notes], b"");
+    assert!(good);
+    assert_eq!(lines, include_bytes!("../scripts/notes.told.txt"));
     let (good, nothing, message) = program(&["journal"], include_bytes!("../scripts/maps.txt"));
     assert!(!good && nothing.is_empty());
     assert!(message.starts_with("line 12: expected a call that a journal has"), "{message}");

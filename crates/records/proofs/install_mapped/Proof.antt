@@ -1,15 +1,13 @@
 -- `install_mapped` stores a policy, turned into system nodes, in a record.
 -- Assumes nothing.
-use Prim.Native.Nat.{ℕ}
 use mathlib.Core.Bool.{true, false, not, _&&_}
 use mathlib.Core.List.{[]}
-use mathlib.Core.Path.{_≡_, sym, ap, subst, _∙_}
+use mathlib.Core.Path.{_≡_, sym, ap, _∙_}
 use native.Mathlib.Omega.{arith}
 use borrow.Author.Needs.{needs}
 use borrow.Author.Tests.{not-true, not-false}
-use lib.Dec.{leb, ltb}
-use lib.ListN.{length, take}
-use Rattle.rules.specs.Basics.{all}
+use lib.Dec.{leb}
+use lib.ListN.{length}
 use Rattle.rules.specs.Masks.{isEmpty}
 use Rattle.rules.specs.Records.{placesPerJob, Policy, Record, carries, modeOf, recordAt, wellFormed}
 use Rattle.rules.specs.Maps.{nodesIn, turned, withinMap}
@@ -104,15 +102,13 @@ returns-4 c t p a =
     let two = known three in
     rw (well (formed two), is-known two p a, is-some three, fits-few, within-is (c .before) p a ∙ not-true _ (c .if4 .taken))
 
--- the map of the job is good, and the places are entries of it
+-- the map of the job is good, and the places are few enough
 turned-requires : tie.Need-turned-requires
 turned-requires c κs =
     let s = start (formed (known (some c))) in
     let few = c .before .within .ensures .1 (not-false _ (c .if4 .left)) in
     let good = good-small (s .args .nodes) (s .args .bytes .now) (s .pre .1) (s .pre .2) in
-    let policy = s .args .policy in
-    let entries = subst (λ (n : ℕ). all (λ k. ltb k n) (take (policy .len) (policy .places)) ≡ true) (s .pre .3) (few .1) in
-    (few .0, entries, s .pre .3, omega (arith, good .0, s .pre .3), good .1)
+    (few, s .pre .3, omega (arith, good .0, s .pre .3), good .1)
 
 returns-5 : tie.Need-returns-5
 unfolding applied
@@ -136,7 +132,7 @@ installed-requires c κs =
     let two = known three in
     let policy = start (formed two) .args .policy in
     let small = small-numbers (asked policy []) (sym (two .before .known .ensures []) ∙ not-false _ (two .if2 .left)) in
-    let few = four .before .within .ensures .1 (not-false _ (four .if4 .left)) .0 in
+    let few = four .before .within .ensures .1 (not-false _ (four .if4 .left)) in
     let same = c .before .before .before .turned .ensures .1 in (
       some-pos _ (ap not (sym (three .before .is-empty .ensures) ∙ three .if3 .left)),
       omega (arith, same .0, small .0),

@@ -10,17 +10,16 @@ use lib.ListN.{length, getD, take, length-map}
 use lib.Seq.{length-take-le, getD-take}
 use Rattle.rules.specs.Maps.{nodesIn, systemNode}
 use Rattle.rules.proofs.Filled.{filled, fill-none, fill-end}
-use Rattle.rules.proofs.Maps.{entry-below}
 use Rattle.maps.proofs.MapNodes.{fill-node}
 use Rattle.maps.proofs.turning.turned_places.Statement.{statement}
 use Rattle.maps.proofs.turning.turned_places.Tie as tie
 
 abbrev Inv-loop : tie.InvT-loop
-Inv-loop bytes count places out₀ i₀ out i =
+Inv-loop bytes len count places out₀ i₀ out i =
     (i ≤ count) × (length places ≡ 16) × (out ≡ filled 16 0 (map (systemNode (nodesIn bytes)) (take count places)) i)
 
 abbrev μ-loop : tie.MeasureT-loop
-μ-loop bytes count places out₀ i₀ out i = count - i
+μ-loop bytes len count places out₀ i₀ out i = count - i
 
 loop-holds : tie.Need-loop-holds Inv-loop μ-loop
 loop-holds c = (search needs, search needs, fill-none 16 0 _)
@@ -28,32 +27,25 @@ loop-holds c = (search needs, search needs, fill-none 16 0 _)
 -- the places that are turned are so many
 long : (c : tie.At-loop Inv-loop μ-loop) →
     let a = c .before .before .args in
-    length (take (a .count) (a .t2)) ≡ a .count
-long c = let a = c .before .before .args in length-take-le (a .count) (a .t2) (omega arith)
+    length (take (a .count) (a .t3)) ≡ a .count
+long c = let a = c .before .before .args in length-take-le (a .count) (a .t3) (omega arith)
 
 -- the next of them
 next : (c : tie.In-loop Inv-loop μ-loop) →
     let a = c .before .before .before .args in
-    getD (take (a .count) (a .t2)) (c .before .loop .i) 0 ≡ getD (a .t2) (c .before .loop .i) 0
-next c = let a = c .before .before .before .args in getD-take (a .count) (a .t2) (c .before .loop .i) 0 (c .loop-test .taken)
-
-node-at-requires : tie.Need-node-at-requires Inv-loop μ-loop
-node-at-requires c κs =
-    let s = c .before .before .before in
-    let i = c .before .loop .i in
-    let b = entry-below (length (nodesIn (s .args .bytes .now))) (take (s .args .count) (s .args .t2)) i 0 (s .pre .1) (omega (arith, long (c .before))) in
-    omega (arith, next c, b)
+    getD (take (a .count) (a .t3)) (c .before .loop .i) 0 ≡ getD (a .t3) (c .before .loop .i) 0
+next c = let a = c .before .before .before .args in getD-take (a .count) (a .t3) (c .before .loop .i) 0 (c .loop-test .taken)
 
 loop-again : tie.Need-loop-again Inv-loop μ-loop
 loop-again c =
     let l = c .before .before .loop in
     let s = c .before .before .before .before in
     let f = systemNode (nodesIn (s .args .bytes .now)) in
-    let xs = take (s .args .count) (s .args .t2) in
-    let node = c .node-at .ensures ∙ ap f (sym (next (c .before))) in (
+    let xs = take (s .args .count) (s .args .t3) in
+    let node = c .place-node .ensures ∙ ap f (sym (next (c .before))) in (
       omega arith,
       l .inv .1,
-      rw (l .inv .2) (fill-node 16 0 f xs (l .i) (c .node-at .result .0) (omega (arith, long (c .before .before))) (omega arith) node),
+      rw (l .inv .2) (fill-node 16 0 f xs (l .i) (c .place-node .result .0) (omega (arith, long (c .before .before))) (omega arith) node),
     )
 
 returns : tie.Need-returns Inv-loop μ-loop
@@ -61,7 +53,7 @@ returns c =
     let l = c .before .loop in
     let s = c .before .before .before in
     let f = systemNode (nodesIn (s .args .bytes .now)) in
-    let xs = take (s .args .count) (s .args .t2) in
+    let xs = take (s .args .count) (s .args .t3) in
     let all : l .i ≡ length (map f xs) = rw length-map (omega (arith, long (c .before))) in
     l .inv .2 ∙ fill-end 16 0 (map f xs) (l .i) (omega arith) (omega (arith, long (c .before))) (inl (omega arith))
 
@@ -73,7 +65,7 @@ turned-places-spec =
     μ-loop
     loop-holds
     (λ c. omega arith)
-    node-at-requires
+    (λ c κs. c .before .before .before .pre .1)
     (λ c. omega arith)
     (search needs) (search needs)
     loop-again

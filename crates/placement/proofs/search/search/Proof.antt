@@ -18,6 +18,14 @@ search-places-requires c κs =
     let inside = rw (c .before .plan2 .given .1) at (c .before .before .before .of .ensures .1) in
     (inside .0, inside .1)
 
+search-closed-requires : tie.Need-search-closed-requires
+search-closed-requires c κs =
+    let planned = c .before .before .before in
+    let s = planned .before .before .before .before in
+    let inside = rw (c .before .plan3 .given .1) at (planned .of .ensures .1) in
+    let plannable = s .pre .plannable in
+    (inside .0, inside .1, record { few = plannable .few; table = s .pre .table; set-below = plannable .limit-below; from-node = inside .2 })
+
 returns : tie.Need-returns
 unfolding order
 returns c =
@@ -30,6 +38,12 @@ returns-2 c =
     let planned = c .before .before in
     rw (sym (planned .before .before .of .ensures .0), planned .plan2 .given .1) (c .search-places .ensures)
 
+returns-3 : tie.Need-returns-3
+unfolding order
+returns-3 c =
+    let planned = c .before .before in
+    rw (sym (planned .before .before .of .ensures .0), planned .plan3 .given .1) (c .search-closed .ensures)
+
 pub search-spec : {M : Type 1} → statement M
 search-spec =
     tie.close
@@ -39,5 +53,8 @@ search-spec =
     search-near-requires
     (search needs)
     search-places-requires
+    (search needs)
+    search-closed-requires
     returns
-    returns-2)
+    returns-2
+    returns-3)

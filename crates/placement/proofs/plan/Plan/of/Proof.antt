@@ -9,9 +9,8 @@ use native.Mathlib.Omega.{arith}
 use borrow.Author.Needs.{needs}
 use borrow.Author.Tests.{eqb-true, eqb-false}
 use lib.Bits.{and-le-l}
-use lib.ListN.{length}
 use Rattle.rules.specs.Masks.{mostNodes}
-use Rattle.rules.specs.Records.{Record, aMask, rowOf, carries, modeOf, cursorLimit, placesPerJob}
+use Rattle.rules.specs.Records.{Record, aMask, rowOf, carries, modeOf, cursorLimit, placesOf}
 use Rattle.rules.specs.SearchOrder.{Try, try, nearest, placed, target, planIn, plan}
 use Rattle.rules.proofs.WellFormed.{Formed, formed, carries-list}
 use Rattle.nodemask.specs.Found.{foundNode}
@@ -19,7 +18,7 @@ use Rattle.records.specs.declared.job.Mode.{Mode}
 use Rattle.records.specs.Jobs.{carriedIn, recordWith, jobOf}
 use Rattle.placement.specs.Plans.{leaves, walkTries, earlyTries}
 use Rattle.placement.proofs.Plans.{effective-lt, lowest-below, target-below, some-target, no-target, default-plan, preferred-plan}
-use Rattle.placement.proofs.Plans.{bind-plan, interleave-plan, none-effective, some-user, list-plan, list-tries, place-at, ring-tries}
+use Rattle.placement.proofs.Plans.{bind-plan, interleave-plan, none-effective, some-user, list-plan, place-at, ring-tries}
 use Rattle.placement.proofs.plan.Plan.of.Statement.{statement}
 use Rattle.placement.proofs.plan.Plan.of.Tie as tie
 
@@ -72,9 +71,9 @@ aimed : (c : tie.After-target) →
     foundNode (c .target .result) ≡ target (held .1 .1 .0 .0) (held .1 .1 .1 .0)
 aimed c = c .target .ensures
 
-add-t23 : tie.Need-add-t23
+add-t24 : tie.Need-add-t24
 unfolding recordWith
-add-t23 c =
+add-t24 c =
     let found = c .before .before in
     let moded = found .before .before .before .before in
     let s = moded .before .before in
@@ -138,15 +137,18 @@ returns-7 c =
     local s e refl (omega (arith, told .known-told3 .given)) z
 
 -- list
-returns-8 : tie.Need-returns-8
-unfolding jobOf recordWith walkTries earlyTries rowOf planIn
-returns-8 c =
+of-list-requires : tie.Need-of-list-requires
+unfolding recordWith rowOf
+of-list-requires c κs =
     let s = c .before .before .before .before in
-    let e = c .before .before .mode4 .given .1 in
-    let k = known s e in
-    let l = carries-list (s .args .nodes) _ (k .data-fits) in
-    let sixteen : length (s .args .job .places) ≡ placesPerJob = search needs in
-    rw (c .with .ensures, e) (sym (list-plan _ _ _ _ k refl ∙ ap placed (list-tries _ (rw sixteen (l .4)))), (l .4, omega arith))
+    carries-list (s .args .nodes) _ (known s (c .before .before .mode4 .given .1) .data-fits) .4
+
+returns-8 : tie.Need-returns-8
+unfolding jobOf recordWith rowOf planIn placesOf
+returns-8 c =
+    let s = c .before .before .before .before .before in
+    let e = c .before .before .before .mode4 .given .1 in
+    rw e (c .of-list .ensures .0 ∙ sym (list-plan _ _ _ _ (known s e) refl), c .of-list .ensures .1 _ (s .pre .from-node))
 
 -- ring
 returns-9 : tie.Need-returns-9
@@ -156,7 +158,7 @@ returns-9 c =
     let e = c .before .before .mode5 .given .1 in
     let k = known s e in
     let l = carries-list (s .args .nodes) _ (k .data-fits) in
-    rw (c .with2 .ensures, e) (sym (list-plan _ _ _ _ k refl ∙ ap placed (ring-tries _ _)), (l .4, k .cursor-within))
+    rw (c .with .ensures, e) (sym (list-plan _ _ _ _ k refl ∙ ap placed (ring-tries _ _)), (l .4, k .cursor-within))
 
 -- early
 returns-10 : tie.Need-returns-10
@@ -167,7 +169,7 @@ returns-10 c =
     let k = known s e in
     let l = carries-list (s .args .nodes) _ (k .data-fits) in
     let tries = ap₂ (λ (t : Try) (ts : List Try). t ∷ ts) (ap (try _) (place-at _ 0 (l .3))) (ring-tries _ _) in
-    rw (c .with3 .ensures, e) (sym (list-plan _ _ _ _ k refl ∙ ap placed tries), (l .4, k .cursor-within))
+    rw (c .with2 .ensures, e) (sym (list-plan _ _ _ _ k refl ∙ ap placed tries), (l .4, k .cursor-within))
 
 pub of-spec : {M : Type 1} → statement M
 of-spec =
@@ -181,8 +183,10 @@ of-spec =
     (search needs) (search needs)
     target-requires
     (search needs)
-    add-t23
-    (search needs) (search needs) (search needs) (search needs) (search needs) (search needs) (search needs)
+    add-t24
+    (search needs) (search needs)
+    of-list-requires
+    (search needs) (search needs) (search needs) (search needs)
     returns-3
     returns-4
     returns-5

@@ -10,7 +10,7 @@ turned-places-requires : tie.Need-turned-places-requires
 turned-places-requires c κs = let s = c .before .before in (s .pre .0, s .pre .1)
 
 turned-mask-requires : tie.Need-turned-mask-requires
-turned-mask-requires c κs = let s = c .before .before .before .before .before in (s .pre .2, s .pre .3, s .pre .4)
+turned-mask-requires c κs = let s = c .before .before .before .before .before in (s .pre .1, s .pre .2, s .pre .3)
 
 returns : tie.Need-returns
 returns c =

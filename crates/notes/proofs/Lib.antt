@@ -1,0 +1,15 @@
+pub mod Words
+pub mod Counts
+pub mod Starts
+pub mod GoodLists
+pub mod Notes
+pub mod Placing
+pub mod Writes
+pub mod Tables
+pub mod NamePlaces
+pub mod Handed
+pub mod Tests
+pub mod Outputs
+pub mod ReadBack
+pub mod PlacesFit
+pub mod Installs
