@@ -7,6 +7,7 @@ use crate::machine::{find_starts, jobs_ok, node_of, Machine, Starts};
 use crate::maps::{keep, maps_ok, set, JobMap, Maps};
 use crate::masks::{below, folded, remapped};
 use crate::record::{closes, Record};
+use crate::search::COLOURS;
 
 /// Refusal (0 for none), node and page; 255 and 0xFFFFFFFF where there is none.
 #[derive(Clone, Copy, Debug, PartialEq, Eq)]
@@ -48,11 +49,12 @@ pub fn request_at<const KEPT: bool>(
     let Some(home) = machine.cpus.get(cpu) else { return refused(3) };
     let Some(record) = Record::of(machine.nodes, words) else { return refused(4) };
     let Some((node, cursor)) = choose(machine, free, record, map.nodes, usize::from(*home)) else { return refused(8) };
-    let Some(page) = machine.page(pages, node, hints.hint(machine.starts, node)) else { return refused(14) };
+    let colour = job % COLOURS;
+    let Some(page) = hints.page(machine.starts, pages, node, colour) else { return refused(14) };
     words[0] = words[0] & !(255 << 24) | cursor << 24;
     pages[page] = job as u8 + 1;
     free.take(node);
-    hints.take(node, page);
+    hints.take(machine.starts, node, colour, page);
     Out { refusal: 0, node: map.number(node), page: page as u32 }
 }
 
@@ -105,7 +107,7 @@ pub fn release_at<const KEPT: bool>(
         return refused(14);
     }
     pages[page] = 0;
-    hints.give(node, page);
+    hints.give(starts, node, page);
     Out { refusal: 0, node: map.number(node), page: page as u32 }
 }
 

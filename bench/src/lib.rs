@@ -2,6 +2,7 @@
 
 #![deny(unsafe_code)]
 
+pub mod colours;
 pub mod fast;
 mod free;
 mod hints;

@@ -1,7 +1,5 @@
 //! The machine's tables, tested once.
 
-use crate::search::lowest_free;
-
 /// The machine, and where each node's pages begin.
 pub struct Machine<'a> {
     pub nodes: usize,
@@ -75,11 +73,5 @@ impl<'a> Machine<'a> {
             rest &= rest - 1;
         }
         (least < 255 << 8).then_some(usize::from(least & 255))
-    }
-
-    /// The lowest free page of a node; all before the hint are held.
-    pub fn page(&self, pages: &[u8], node: usize, hint: u32) -> Option<usize> {
-        let (start, end) = (hint as usize, self.starts[node + 1] as usize);
-        lowest_free(&pages[start..end]).map(|page| start + page)
     }
 }

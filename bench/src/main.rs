@@ -1,10 +1,12 @@
-//! Prints nanoseconds per call and ratios as Markdown. The ways take turns; an argument says how many rounds.
+//! Prints nanoseconds per call and ratios as Markdown. The ways take turns; an argument says how many rounds, a second one
+//! which part alone: `calls`, `search` or `colours`.
 
 use std::hint::black_box;
-use std::time::{Duration, Instant};
+use std::time::Duration;
 
+use bench::colours::{each, lines, row, HEAD};
 use bench::fast;
-use bench::search::{load_all, lowest_zero, lowest_zero_by_bytes, lowest_zero_by_memchr};
+use bench::search::{load_all, lowest_zero, lowest_zero_by_bytes, lowest_zero_by_memchr, COLOURS};
 use bench::ways::{run, WAYS};
 use bench::works::{works, Work};
 use reference::calls::Tables;
@@ -14,7 +16,25 @@ use reference::calls::Tables;
 const PIECE: usize = 1_024;
 
 fn main() {
-    let rounds = std::env::args().nth(1).and_then(|rounds| rounds.parse().ok()).unwrap_or(15);
+    let arguments: Vec<String> = std::env::args().skip(1).collect();
+    let rounds = arguments.first().and_then(|rounds| rounds.parse().ok()).unwrap_or(15);
+    let asked = |part: &str| arguments.get(1).map_or(true, |only| only == part);
+    if asked("calls") {
+        calls(rounds);
+    }
+    if asked("search") {
+        search(rounds);
+    }
+    if asked("colours") {
+        println!(
+            "\nThe page search by colours: a request of job 2 on one node of 65,536 pages; nanoseconds.\n\n{HEAD}"
+        );
+        lines().iter().for_each(|line| println!("{}", row(line, 4 * rounds)));
+    }
+}
+
+/// The workloads, call by call and as lists.
+fn calls(rounds: usize) {
     let mut rows: Vec<Row> = [4, 16, 64].into_iter().flat_map(works).map(Row::new).collect();
     for round in 0..rounds {
         rows.iter_mut().for_each(|row| row.round(round % 2 == 1));
@@ -26,7 +46,11 @@ fn main() {
     for row in rows {
         println!("{}", row.line());
     }
-    println!("\nThe page search: a request on one node of 65,536 pages, all held but one; nanoseconds.\n");
+}
+
+/// The page search beside loops that do no more than search.
+fn search(rounds: usize) {
+    println!("\nThe page search: a request on one node of 65,536 pages, all held but one, by a job of that page's colour; nanoseconds.\n");
     println!("| free page | request: library | Rust | ratio | blocks alone | library / blocks | memchr alone | library / memchr | 16-byte loads alone | loads / memchr | byte by byte |");
     println!("|---|---|---|---|---|---|---|---|---|---|---|");
     for place in [3, 100, 1_000, 16_000, 65_535] {
@@ -81,30 +105,20 @@ impl Row {
     }
 }
 
-/// Nanoseconds of one turn, out of some hundred.
-fn each(mut turn: impl FnMut()) -> f64 {
-    let turns = 400;
-    let begin = Instant::now();
-    for _ in 0..turns {
-        turn();
-    }
-    begin.elapsed().as_nanos() as f64 / f64::from(turns)
-}
-
 /// Requests that find the free page at a place, beside the search alone.
 fn search_row(place: usize, rounds: usize) -> String {
     let mut pages = vec![77; 65_536];
-    let mut jobs = vec![0, 0, 1, 0, 0, 0];
-    let (mut free, maps) = ([0], spirerivet::identity_maps(1, 1));
+    let (mut jobs, job) = ([0, 0, 1, 0, 0, 0].repeat(COLOURS), place % COLOURS);
+    let (mut free, maps) = ([0], spirerivet::identity_maps(1, COLOURS));
     let mut best = [f64::MAX; 6];
     for _ in 0..rounds {
         let library = each(|| {
             (pages[place], free[0]) = (0, 1);
-            black_box(spirerivet::request(&[65_536], &[0], &[10], &mut pages, &mut jobs, &mut free, &maps, 0, 0));
+            black_box(spirerivet::request(&[65_536], &[0], &[10], &mut pages, &mut jobs, &mut free, &maps, job, 0));
         });
         let rust = each(|| {
             (pages[place], free[0]) = (0, 1);
-            black_box(fast::request(&[65_536], &[0], &[10], &mut pages, &mut jobs, &mut free, &maps, 0, 0));
+            black_box(fast::request(&[65_536], &[0], &[10], &mut pages, &mut jobs, &mut free, &maps, job, 0));
         });
         pages[place] = 0;
         let blocks = each(|| {

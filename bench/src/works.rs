@@ -5,6 +5,7 @@ use reference::generate::Dice;
 use reference::maps::identity_maps;
 use reference::masks::all_below;
 
+use crate::search::COLOURS;
 use crate::ways::{fast_call, words_of};
 
 /// A workload.
@@ -145,12 +146,13 @@ fn turns(dice: &mut Dice, tables: &Tables, turn: usize) -> Call {
     Call::Request { job, cpu: cpu_of(job) }
 }
 
-/// A request from node 0 and a release of its page in turns, one job after the other.
-fn there_and_back(page: usize, turn: usize) -> Call {
+/// A request from node 0 and a release of its page in turns, one job after the other; the page is the first of the job's
+/// colour.
+fn there_and_back(first: usize, turn: usize) -> Call {
     let job = turn / 2 % 64;
     match turn % 2 {
         0 => Call::Request { job, cpu: 0 },
-        _ => Call::Release { job, page },
+        _ => Call::Release { job, page: first + job % COLOURS },
     }
 }
 

@@ -1,13 +1,15 @@
 //! The careful Rust implementation against the second implementation, with free counts that match and with wrong ones, with
-//! maps good and bad, and with closing 255s.
+//! maps good and bad, with closing 255s, and by colours.
 
 use std::collections::BTreeMap;
 
+use bench::colours::{lines, Node};
 use bench::fast;
 use bench::ways::{fast_call, words_of};
 use bench::works::{works, Work};
 use reference::calls::{apply, apply_with, Answer, Call, Tables};
 use reference::closing::Closings;
+use reference::colours::Colours;
 use reference::generate::{case, journal_parts, list, put_counts, tables, Case, Dice, SORTS_OF_COUNTS};
 use reference::map_cases::{put_map, wrong_length, SORTS};
 use reference::maps::identity_maps;
@@ -96,12 +98,13 @@ fn single_calls_agree() {
 
 #[test]
 fn runs_of_calls_agree() {
-    let (mut seen, mut closings) = (Seen::default(), Closings::default());
+    let (mut seen, mut closings, mut colours) = (Seen::default(), Closings::default(), Colours::default());
     for seed in 0..120 {
         let (nodes, start, calls) = tables(seed, 40);
         same(&format!("tables {seed}"), nodes, start, &calls, &mut seen);
         for (start, calls) in [list(seed, 150), journal_parts(seed, 150)] {
             closings.enter_list(&start, &calls);
+            colours.enter_list(&start, &calls);
             for start in counts_of_every_sort(seed, &start) {
                 same(&format!("list {seed}"), start.counts.len(), start, &calls, &mut seen);
             }
@@ -109,6 +112,18 @@ fn runs_of_calls_agree() {
     }
     seen.all_of_every_call();
     assert!(closings.each_at_least(20), "{closings:?}");
+    assert!(colours.each_at_least(200), "{colours:?}");
+}
+
+/// Each timed page table of the search by colours grants the page that its line says, by both.
+#[test]
+fn the_timed_searches_by_colour_agree() {
+    assert_eq!(lines().len(), 13);
+    for line in lines() {
+        let mut node = Node::new(&line.pages);
+        assert_eq!((node.by_rust(), node.by_rust()), (line.granted, line.granted), "{}", line.name);
+        assert_eq!((node.by_library(), node.by_library()), (line.granted, line.granted), "{}", line.name);
+    }
 }
 
 /// Replays calls by the careful Rust.

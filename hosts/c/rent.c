@@ -198,7 +198,7 @@ static void rent_two(void)
     show("tenant: keep 1", keep(TENANT, second, sizeof second));
     show("tenant: ring 1,0", ring(TENANT, places, sizeof places));
     show("tenant: request", request(TENANT, 0));
-    show("tenant: release 0", release(TENANT, 0));
+    show("tenant: release 1", release(TENANT, 1));
     show("tenant: release 5", release(TENANT, 5));
 }
 

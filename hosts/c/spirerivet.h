@@ -104,7 +104,8 @@ struct spire_order {
 };
 
 /* A page for a job that runs on a CPU: its node and its number. Only allowed nodes that are in the job's map are tried; those
- * counted 0 are passed over. Writes pages, jobs and free_counts. Refusals 1, 2, 15, 3, 4, 14, 8. */
+ * counted 0 are passed over. In the node that serves, it is the lowest free page whose offset in the node, mod 4, is the job's
+ * number mod 4; if there is none, the lowest free page. Writes pages, jobs and free_counts. Refusals 1, 2, 15, 3, 4, 14, 8. */
 struct spire_answer spire_request(const uint32_t *counts, size_t nodes, const uint8_t *cpus, size_t cpu_count,
                                   const uint8_t *distances, size_t distance_count, uint8_t *pages, size_t page_count,
                                   uint64_t *jobs, size_t job_words, uint32_t *free_counts, size_t free_len,

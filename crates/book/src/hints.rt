@@ -1,33 +1,80 @@
-// The calls that change pages, with the hints kept: for each node a page before which all its pages are held. A list of calls keeps them
-// from call to call, so that a search for a free page goes over no held page twice.
+// The calls that change pages, with the hints kept: for each node and colour a page before which its pages of that colour are held, and for
+// each node one before which all its pages are. A list of calls keeps them from call to call, so that a search for a free page goes over no
+// held page twice.
 
 ghost use mathlib.Core.Bool.{true};
 ghost use mathlib.Core.Path.{_≡_};
+ghost use Prim.Native.Nat.{_-_, _*_, _%_, _<_, _≤_};
 ghost use lib.ListN.{length};
+ghost use Rattle.rules.specs.Masks.{mostNodes};
 ghost use Rattle.rules.specs.Answers.{answerOf};
 ghost use Rattle.rules.specs.Calls.{Tables, tablesOf, withPages, outcome, requestTablesOk, releaseTablesOk, freshTablesOk, onRequest, onRelease, onFresh};
 ghost use Rattle.machine.specs.Tables.{machineOf, Starts};
-ghost use Rattle.placement.specs.Hints.{Hints, hinted, Named};
+ghost use Rattle.placement.specs.Hints.{Hints, lowered, hinted, Named};
+ghost use Rattle.placement.specs.declared.placed.Placed.the-variants.{Granted};
 use placement;
+use placement::hinting;
+use placement::hinting::ALL_PAGES;
+use placement::hinting::HINTS;
 use placement::placed;
 use placement::placed::Placed;
 use rules::Answer;
 use rules::MOST_NODES;
+use rules::Page;
+use rules::SysNode;
 
-// The hints after a page is placed: one that was granted was the lowest free one of its node.
-fn keep(hints: &mut [u32; MOST_NODES + 1], placed: Placed)
-    requires { ⌜ Named placed ⌝ }
-    ensures { λ _. ⌜ now (hints .exit) ≡ hinted (now (hints .entry)) placed ⌝ }
+// The colour of a page, by its node's first page.
+fn colour_of(first: Page, page: Page) -> usize
+    requires { ⌜ first .0 ≤ page .0 ⌝ }
+    ensures { λ r. ⌜ r ≡ (page .0 - first .0) % 4 ⌝ }
+{
+    ((page.0 - first.0) % 4) as usize
+}
+
+// The hints after a grant: the page was the lowest free one of the job's colour; or the lowest free one, and none of that colour is free.
+fn keep_granted(
+    starts: &[u32; MOST_NODES + 1],
+    hints: &mut [u32; HINTS],
+    job: usize,
+    node: SysNode,
+    page: Page,
+)
+    requires { ⌜ Named (now starts) (Granted node page) ⌝ }
+    ensures { λ _. ⌜ now (hints .exit) ≡ hinted (now (starts .entry)) job (now (hints .entry)) (Granted node page) ⌝ }
+{
+    let n = node.0 as usize;
+    let own = hinting::hint_at(node, job % 4);
+    if colour_of(Page(starts[n]), page) == job % 4 {
+        hints[own] = page.0 + 1;
+    } else {
+        hints[hinting::hint_at(node, ALL_PAGES)] = page.0 + 1;
+        hints[own] = starts[n + 1];
+    }
+}
+
+// A hint goes down to a page that is released before it.
+fn lower_hint(hints: &mut [u32; HINTS], at: usize, page: Page)
+    requires { ⌜ at < 5 * mostNodes ⌝ }
+    ensures { λ _. ⌜ now (hints .exit) ≡ lowered (now (hints .entry)) at (page .0) ⌝ }
+{
+    if page.0 < hints[at] {
+        hints[at] = page.0;
+    }
+}
+
+// The hints after a page is placed for a job.
+fn keep(starts: &[u32; MOST_NODES + 1], hints: &mut [u32; HINTS], job: usize, placed: Placed)
+    requires { ⌜ Named (now starts) placed ⌝ }
+    ensures { λ _. ⌜ now (hints .exit) ≡ hinted (now (starts .entry)) job (now (hints .entry)) placed ⌝ }
 {
     match placed {
         Placed::Granted(node, page) => {
-            hints[node.0 as usize] = page.0 + 1;
+            keep_granted(starts, hints, job, node, page);
         }
         Placed::Released(node, page) => {
-            let n = node.0 as usize;
-            if page.0 < hints[n] {
-                hints[n] = page.0;
-            }
+            let colour = colour_of(Page(starts[node.0 as usize]), page);
+            lower_hint(hints, hinting::hint_at(node, ALL_PAGES), page);
+            lower_hint(hints, hinting::hint_at(node, colour), page);
         }
         Placed::Refused(_) => {}
     }
@@ -37,7 +84,7 @@ fn keep(hints: &mut [u32; MOST_NODES + 1], placed: Placed)
 pub fn request(
     counts: &[u32],
     starts: &[u32; MOST_NODES + 1],
-    hints: &mut [u32; MOST_NODES + 1],
+    hints: &mut [u32; HINTS],
     cpus: &[u8],
     distances: &[u8],
     pages: &mut [u8],
@@ -54,7 +101,7 @@ pub fn request(
     let placed = placement::request_at(
         counts,
         starts,
-        hints,
+        &hints[..],
         cpus,
         distances,
         pages,
@@ -64,7 +111,7 @@ pub fn request(
         job,
         cpu,
     );
-    keep(hints, placed);
+    keep(starts, hints, job, placed);
     placed::tell(maps, job, placed)
 }
 
@@ -72,7 +119,7 @@ pub fn request(
 pub fn release(
     counts: &[u32],
     starts: &[u32; MOST_NODES + 1],
-    hints: &mut [u32; MOST_NODES + 1],
+    hints: &mut [u32; HINTS],
     pages: &mut [u8],
     jobs: &[u64],
     free: &mut [u32],
@@ -85,7 +132,7 @@ pub fn release(
     ensures kept { λ r. ⌜ Hints (now (counts .entry)) (now (pages .exit)) (now (hints .exit)) ⌝ }
 {
     let placed = placement::release_at(counts, starts, pages, jobs, free, maps, job, page);
-    keep(hints, placed);
+    keep(starts, hints, job, placed);
     placed::tell(maps, job, placed)
 }
 
@@ -93,7 +140,7 @@ pub fn release(
 pub fn fresh(
     counts: &[u32],
     starts: &[u32; MOST_NODES + 1],
-    hints: &mut [u32; MOST_NODES + 1],
+    hints: &mut [u32; HINTS],
     pages: &mut [u8],
     free: &mut [u32],
 ) -> Answer
@@ -101,6 +148,6 @@ pub fn fresh(
     ensures did { λ r. ⌜ ((t : Tables) → outcome (answerOf r) (withPages t (now (pages .exit)) (now (free .exit))) ≡ onFresh (now (counts .entry)) (withPages t (now (pages .entry)) (now (free .entry)))) ⌝ }
     ensures kept { λ r. ⌜ Hints (now (counts .entry)) (now (pages .exit)) (now (hints .exit)) ⌝ }
 {
-    *hints = *starts;
+    *hints = [0; HINTS];
     placement::fresh_at(counts, starts, pages, free)
 }

@@ -8,6 +8,7 @@ ghost use Rattle.rules.specs.Book.{Call as LawCall, step};
 ghost use Rattle.machine.specs.Tables.{machineOf, Starts};
 ghost use Rattle.placement.specs.Hints.{Hints};
 ghost use Rattle.book.specs.Says.{Says};
+use placement::hinting::HINTS;
 use records;
 use records::policy::AppPolicy;
 use rules::Answer;
@@ -57,7 +58,7 @@ pub enum Call {
 pub fn perform(
     counts: &[u32],
     starts: &[u32; MOST_NODES + 1],
-    hints: &mut [u32; MOST_NODES + 1],
+    hints: &mut [u32; HINTS],
     cpus: &[u8],
     distances: &[u8],
     pages: &mut [u8],

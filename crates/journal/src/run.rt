@@ -25,6 +25,7 @@ use super::record::read_record;
 use super::record::whole;
 use book;
 use machine;
+use placement::hinting::HINTS;
 use rules::MOST_NODES;
 use rules::Refusal;
 
@@ -39,7 +40,7 @@ pub struct Part {
 fn run_record(
     counts: &[u32],
     starts: &[u32; MOST_NODES + 1],
-    hints: &mut [u32; MOST_NODES + 1],
+    hints: &mut [u32; HINTS],
     cpus: &[u8],
     distances: &[u8],
     pages: &mut [u8],
@@ -100,7 +101,7 @@ fn ready(input: &[u8], ended: bool) -> bool
 fn run_records(
     counts: &[u32],
     starts: &[u32; MOST_NODES + 1],
-    hints: &mut [u32; MOST_NODES + 1],
+    hints: &mut [u32; HINTS],
     cpus: &[u8],
     distances: &[u8],
     pages: &mut [u8],
@@ -168,7 +169,7 @@ pub fn run_part(
     let cpus = cpu_bytes(opening);
     let distances = distance_bytes(opening);
     let starts = machine::starts_of(counts);
-    let mut hints = starts;
+    let mut hints = [0u32; HINTS];
     run_records(
         counts,
         &starts,

@@ -37,6 +37,7 @@ use rules::SysNode;
 use search::Chosen;
 
 pub mod grant;
+pub mod hinting;
 pub mod placed;
 pub mod plan;
 pub mod search;
@@ -128,7 +129,7 @@ pub fn admit(
 fn serve(
     counts: &[u32],
     starts: &[u32; MOST_NODES + 1],
-    hints: &[u32; MOST_NODES + 1],
+    hints: &[u32],
     distances: &[u8],
     pages: &mut [u8],
     jobs: &mut [u64],
@@ -152,11 +153,11 @@ fn serve(
     }
 }
 
-// A request on tables that are in order. A page is searched for from its node's hint on.
+// A request on tables that are in order. A page is searched for from its node's hints on; there may be none.
 pub fn request_at(
     counts: &[u32],
     starts: &[u32; MOST_NODES + 1],
-    hints: &[u32; MOST_NODES + 1],
+    hints: &[u32],
     cpus: &[u8],
     distances: &[u8],
     pages: &mut [u8],
@@ -224,7 +225,7 @@ pub fn request(
     let placed = request_at(
         counts,
         &starts,
-        &starts,
+        &counts[..0],
         cpus,
         distances,
         pages,

@@ -15,6 +15,7 @@ use book;
 use encoding::CALL_WORDS;
 use machine;
 use placement;
+use placement::hinting::HINTS;
 use rules::Decision;
 use rules::MAP_BYTES;
 use rules::MOST_NODES;
@@ -39,7 +40,7 @@ fn run_calls(
     ensures { λ r. ⌜ run (accept r) (tablesOf (now (pages .exit)) (now (jobs .exit)) (now (free .exit)) (now (maps .exit))) (now (answers .exit)) ≡ onReplay (machineOf (now (counts .entry)) (now (cpus .entry)) (now (distances .entry))) (tablesOf (now (pages .entry)) (now (jobs .entry)) (now (free .entry)) (now (maps .entry))) (now (calls .entry)) (now (answers .entry)) ⌝ }
 {
     let n = calls.len() / CALL_WORDS;
-    let mut hints = *starts;
+    let mut hints = [0u32; HINTS];
     let mut list = [0u8; MAP_BYTES];
     let mut i = 0;
     while i < n {

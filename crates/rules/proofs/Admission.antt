@@ -107,7 +107,7 @@ module _ (m : Machine) (t : Tables) (j k : ℕ) where
       → Passes m t j k × (s : Try) × (chosen (t .free) (orderOf m t j k) ≡ some s) × (hasRoom (m .pageCounts) (t .ledger) (s .node) ≡ true)
       × (x ≡ granting (m .pageCounts) t j s)
   unfolding requestDecision
-  accepted e =
+  accepted {x} e =
       let g = went-on (admitted m t j k) _ e in
       let s = served-is (chosen (t .free) (orderOf m t j k)) (g .2) in
       (admitted-passes (g .1), s .0, s .1, s .2, s .3)

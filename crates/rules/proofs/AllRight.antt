@@ -1,4 +1,4 @@
--- Each example of the seven tables is right. (Files are checked by name, and what they use first: so a rule that breaks an example is refused
+-- Each example of the eight tables is right. (Files are checked by name, and what they use first: so a rule that breaks an example is refused
 -- at the table, which computes, before any proof.)
 -- Assumes nothing.
 use mathlib.Core.Path.{_≡_, refl}
@@ -12,6 +12,7 @@ use Rattle.rules.specs.NearExamples as nears
 use Rattle.rules.specs.MapExamples as maps
 use Rattle.rules.specs.ClosingExamples as closing
 use Rattle.rules.specs.NoteExamples as notes
+use Rattle.rules.specs.ColourExamples as colours
 use Rattle.rules.proofs.Lists.{_∈_, all-true}
 
 -- a computed test that holds
@@ -46,3 +47,7 @@ closing-right h = all-true maps.right (is-true _ closing.all-right) h
 -- and its notes: notes and tables judged, names handed back, lists turned into places, notes written
 pub notes-right : {e : notes.Example} → e ∈ (notes.judged ++ notes.handed ++ notes.turned ++ notes.written) → notes.right e ≡ true
 notes-right h = all-true notes.right (is-true _ notes.all-right) h
+
+-- M-105 by examples: 01's pages for jobs 1, 2, 3 and 5, and nodes of more than four pages
+pub colours-right : {e : colours.Example} → e ∈ (colours.onA ++ colours.onWide) → colours.right e ≡ true
+colours-right h = all-true colours.right (is-true _ colours.all-right) h

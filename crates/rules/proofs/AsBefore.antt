@@ -26,7 +26,8 @@ use Rattle.rules.specs.FreeCounts.{releaseUncounted, freshUncounted, dec
 use Rattle.rules.proofs.Lists.{_∈_, first-keep, keep-first, entry-same}
 use Rattle.rules.proofs.Admission.{FreePage, no-room, Passes, Searched, nowhere, wrongly, served, searched, refused-8, refused-14}
 use Rattle.rules.proofs.Pages.{PageOf, node-page}
-use Rattle.rules.proofs.Calls.{in-table, installs, rebinds, clears, keepings, setMaps, held-page, picked-lowest, Granted, release-14}
+use Rattle.rules.proofs.Calls.{in-table, installs, rebinds, clears, keepings, setMaps, held-page, Granted, release-14}
+use Rattle.rules.proofs.Picked.{picked-page}
 use Rattle.rules.proofs.InOrder.{PagesInOrder, pages-in-order}
 use Rattle.rules.proofs.FreeCounts.{free-counts-length, counted-room, chosen-with-room, count-granted, count-released, count-within}
 use Rattle.rules.proofs.FreeCounts.{zeros-written, counts-written, all-free}
@@ -79,7 +80,7 @@ module _ (counts : List ℕ) (t : Tables) (a : Matches counts t) where
     granted-same : Same (unless (hasRoom counts (t .ledger) (s .node)) 14 (accept (granting counts t j s))) (accept (granting counts t j s))
     unfolding afterWrites
     granted-same =
-        let p = picked-lowest counts (t .ledger) (s .node) j room .page in
+        let p = picked-page counts (t .ledger) (s .node) j room .page in
         let in-ledger = in-table (t .ledger) (pickPage counts (t .ledger) j (s .node)) 1 0 (p .free) (λ z. omega arith) in
         rw room (same-change (granting counts t j s)
         (ap (λ (f : List ℕ). set f (s .node) (getD f (s .node) 0 - 1)) a ∙ count-granted counts (t .ledger) (s .node) _ j (p .ofNode) in-ledger (p .free)))

@@ -7,19 +7,19 @@ use mathlib.Core.Bool.{Bool, true, false, not, _&&_, true≢false}
 use mathlib.Core.Option.{Option, none, some}
 use mathlib.Core.List.{List, [], _∷_, map, List·Memᴰ·append-cases}
 use native.Mathlib.Omega.{arith}
-use borrow.Author.Tests.{eqb-true, eq-eqb, ltb-true, ltb-false, leb-false, lt-leb, not-true}
+use borrow.Author.Tests.{eqb-true, ltb-true, ltb-false, leb-false, lt-leb}
 use lib.ListN.{length, getD, drop, set, length-set}
 use lib.Seq.{length-sets, drop-set-lt}
 use lib.Dec.{ltb}
 use Rattle.rules.specs.Basics.{Each, from, sum}
-use Rattle.rules.specs.Machine.{Machine, nodeCount, pagesOf, nodeOfPage, nodeOfCpu}
+use Rattle.rules.specs.Machine.{Machine, nodeCount, nodeOfPage, nodeOfCpu}
 use Rattle.rules.specs.Masks.{has, isEmpty, below}
 use Rattle.rules.specs.Records.{Record, Policy, Mode, default, preferred, bind, interleave, list, ring, early, unknownMode}
 use Rattle.rules.specs.Records.{placesOf, closes, recordAt, putRecord, fresh, wellFormed, installed, rebound, Turn}
 use Rattle.rules.specs.Maps.{putMap, goodNodes, systemNode, applicationNode, turned, keepsOf}
 use Rattle.rules.specs.SearchOrder.{Try, try, Plan, nearest, placed, closed, near, tried, target, interleaved, listed, planIn, plan}
 use Rattle.rules.specs.SearchOrder.{modeInForce, order}
-use Rattle.rules.specs.SearchOrder.{freePages, hasRoom, pickPage, counted, chosen}
+use Rattle.rules.specs.SearchOrder.{hasRoom, pickPage, counted, chosen}
 use Rattle.rules.specs.Decisions.{Decision, refuse, accept, unless}
 use Rattle.rules.specs.Calls.{granted, released, refused, Tables, Write, write, Store, Remap, Change, afterWrites, afterStores, afterRemaps}
 use Rattle.rules.specs.Calls.{applied, granting, freeing, freeingAll, storing, mapping, mapOf, isJob, isMapped, freshTablesOk, releaseTablesOk}
@@ -27,14 +27,14 @@ use Rattle.rules.specs.Calls.{recordTablesOk, mappedTablesOk, policyKnow
 use Rattle.rules.specs.Calls.{releaseDecision, freshDecision, installDecision, rebindDecision, clearDecision, keepDecision, setMapDecision}
 use Rattle.rules.specs.Book.{Call, request, release, install, rebind, clear, freshTable, keepNodes, setMap, decision, step}
 use Rattle.rules.specs.Ledger.{writesOf}
-use Rattle.rules.proofs.Admission.{FreePage, isFree, Passes, accepted}
+use Rattle.rules.proofs.Admission.{Passes, accepted}
 use Rattle.rules.proofs.InOrder.{SameLengths, pages-in-order}
 use Rattle.rules.proofs.Decisions.{not-accepted, passed, passed-to}
-use Rattle.rules.proofs.Lists.{_∈_, both-true, keep-member, map-member, FirstOf, first-keep, first-member, first-some}
+use Rattle.rules.proofs.Lists.{_∈_, both-true, keep-member, map-member, FirstOf, first-keep, first-member}
 use Rattle.rules.proofs.Masks.{both-has}
-use Rattle.rules.proofs.Sorted.{first-least}
 use Rattle.rules.proofs.Near.{near-allowed}
-use Rattle.rules.proofs.Pages.{member-page, page-member, page-lt, page-node}
+use Rattle.rules.proofs.Pages.{page-lt, page-node}
+use Rattle.rules.proofs.Picked.{PickedPage, picked-page}
 
 -- ---- the tests that an accepted call has passed
 
@@ -313,33 +313,15 @@ pub order-allowed : (n : ℕ) (distances : List ℕ) (limit : ℕ) (r : Record) 
 unfolding plan
 order-allowed n distances limit r x h = planned-allowed n distances limit (plan limit r x) (plan-inside (modeInForce r) limit r x) h
 
--- "its lowest free page"
-pub record LowestFree (counts ledger : List ℕ) (n p : ℕ) : Type 0 where
-  pub page : FreePage counts ledger n p
-  pub lowest : (q : ℕ) → FreePage counts ledger n q → p ≤ q
-
-module _ (counts ledger : List ℕ) (n : ℕ) where
-  first-lowest : (p : ℕ) → FirstOf (isFree ledger) (pagesOf counts n) p → LowestFree counts ledger n p
-  unfolding pagesOf
-  first-lowest p f = record {
-    page = record { ofNode = member-page counts n (first-member f); free = eqb-true _ 0 (f .passes) };
-    lowest = λ q g. first-least _ _ f q (page-member (g .ofNode)) (eq-eqb _ 0 (g .free));
-  }
-
-  -- a node with room gives its lowest free page
-  pub picked-lowest : (j : ℕ) → hasRoom counts ledger n ≡ true → LowestFree counts ledger n (pickPage counts ledger j n)
-  unfolding hasRoom freePages pickPage
-  picked-lowest j e = first-lowest _ (first-keep (isFree ledger) (pagesOf counts n) (first-some (freePages counts ledger n) 0 (not-true _ e)))
-
 -- ---- request
 
--- M-100: the first node in the order that is counted above 0 "grants its lowest free page": what a grant of page p of node n says
+-- M-100: the first node in the order that is counted above 0 grants; M-105: the page of the job's colour: what a grant of page p of node n says
 pub record Granted (m : Machine) (t : Tables) (j k n p : ℕ) : Type 0 where
   pub passes : Passes m t j k
   pub served : Try
   pub servedBy : served .node ≡ n
   pub firstCounted : FirstOf (λ s. counted (t .free) (s .node)) (orderOf m t j k) served
-  pub lowest : LowestFree (m .pageCounts) (t .ledger) n p
+  pub picked : PickedPage (m .pageCounts) (t .ledger) j n p
   pub allowed : has (limitOf t j) n ≡ true
 
 module _ (m : Machine) (t : Tables) (j k : ℕ) where
@@ -354,7 +336,7 @@ module _ (m : Machine) (t : Tables) (j k : ℕ) where
         served = s;
         servedBy = refl;
         firstCounted = f;
-        lowest = picked-lowest (m .pageCounts) (t .ledger) (s .node) j room;
+        picked = picked-page (m .pageCounts) (t .ledger) (s .node) j room;
         allowed = order-allowed (nodeCount m) (m .distances) (limitOf t j) (recordAt (t .records) j) (nodeOfCpu (m .cpuNodes) k) (first-member f);
       }
 
@@ -395,15 +377,15 @@ granted-is m t j k {a} {p} e =
 
 -- the page of a grant was free
 pub granted-was-free : {m : Machine} {t : Tables} {j k n p : ℕ} → Granted m t j k n p → getD (t .ledger) p 1 ≡ 0
-granted-was-free g = g .lowest .page .free
+granted-was-free g = g .picked .page .free
 
 -- the page of a grant lies in the node granted
 pub granted-in-node : {m : Machine} {t : Tables} {j k n p : ℕ} → Granted m t j k n p → nodeOfPage (m .pageCounts) p ≡ n
-granted-in-node g = page-node (g .lowest .page .ofNode)
+granted-in-node g = page-node (g .picked .page .ofNode)
 
 -- it is below the number of pages
 pub granted-page-lt : {m : Machine} {t : Tables} {j k n p : ℕ} → Granted m t j k n p → p < sum (m .pageCounts)
-granted-page-lt g = page-lt (g .lowest .page .ofNode)
+granted-page-lt g = page-lt (g .picked .page .ofNode)
 
 -- M-100: "pass over nodes counted 0": every node tried before the one that serves is counted 0
 pub earlier-counted-0 : {m : Machine} {t : Tables} {j k n p : ℕ} (g : Granted m t j k n p) {s : Try} → s ∈ g .firstCounted .before

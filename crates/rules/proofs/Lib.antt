@@ -17,6 +17,7 @@ pub mod Machine
 pub mod Near
 pub mod Pages
 pub mod InOrder
+pub mod Picked
 pub mod Calls
 pub mod Book
 pub mod FreeCounts
@@ -24,3 +25,4 @@ pub mod AsBefore
 pub mod Mapped
 pub mod Unmapped
 pub mod Unclosed
+pub mod Uncoloured

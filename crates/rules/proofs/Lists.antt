@@ -95,11 +95,14 @@ module _ {A : Type 0} where
       go true e = ap (λ (l : List A). x ∷ l) e
       go false e = e
 
-  -- tests that agree keep the same
-  pub keep-same : (p q : A → Bool) (xs : List A) → ((x : A) → p x ≡ q x) → keep p xs ≡ keep q xs
+  -- tests that agree on a list keep the same of it
+  pub keep-agree : (p q : A → Bool) (xs : List A) → ((x : A) → x ∈ xs → p x ≡ q x) → keep p xs ≡ keep q xs
   unfolding keep
-  keep-same p q [] h = refl
-  keep-same p q (x ∷ xs) h = rw (h x, keep-same p q xs h)
+  keep-agree p q [] h = refl
+  keep-agree p q (x ∷ xs) h = rw (h x (List·Memᴰ·head refl), keep-agree p q xs (λ y m. h y (List·Memᴰ·tail m)))
+
+  pub keep-same : (p q : A → Bool) (xs : List A) → ((x : A) → p x ≡ q x) → keep p xs ≡ keep q xs
+  keep-same p q xs h = keep-agree p q xs (λ x m. h x)
 
   -- to keep twice is to keep by both tests
   pub keep-keep : (p q : A → Bool) (xs : List A) → keep q (keep p xs) ≡ keep (λ x. p x && q x) xs

@@ -246,7 +246,7 @@ unfoldable pub orderOf : Machine → Tables → ℕ → ℕ → List Try
 orderOf m t j k =
     order (nodeCount m) (m .distances) (limitOf t j) (plan (limitOf t j) (recordAt (t .records) j) (nodeOfCpu (m .cpuNodes) k))
 
--- "grants its lowest free page"; "A grant to job j writes j + 1 at its page in the ledger"; the turn becomes what the try leaves; M-100: the
+-- M-105's page; "A grant to job j writes j + 1 at its page in the ledger"; the turn becomes what the try leaves; M-100: the
 -- node has one free page less; M-103: "answers back"
 abbrev pub granting : List ℕ → Tables → ℕ → Try → Change
 granting counts t j s = record {

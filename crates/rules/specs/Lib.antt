@@ -11,6 +11,7 @@ pub mod Book
 pub mod FreeCounts
 pub mod Unmapped
 pub mod Unclosed
+pub mod Uncoloured
 pub mod Ledger
 pub mod Text
 pub mod Journal
@@ -23,3 +24,4 @@ pub mod NearExamples
 pub mod MapExamples
 pub mod ClosingExamples
 pub mod NoteExamples
+pub mod ColourExamples

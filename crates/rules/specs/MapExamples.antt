@@ -104,9 +104,9 @@ limits =
     ∷ onA (freeA (3 ∷ 9 ∷ 15 ∷ 9 ∷ 0 ∷ 0 ∷ []) threeOne) (ask ∷ ask ∷ ask ∷ ask ∷ []) (granted 1 2 ∷ granted 0 4 ∷ granted 1 3 ∷ granted 0 5 ∷ [])
     -- a bind set outside the map is not empty
     ∷ onA (freeA (2 ∷ 1 ∷ 15 ∷ 1 ∷ 0 ∷ 0 ∷ []) threeOne) (ask ∷ []) (refused 8 ∷ [])
-    -- two jobs: each goes by its own map
+    -- two jobs: each goes by its own map (and its own colour, M-105)
     ∷ onA (freeA (defaultJob 15 ++ defaultJob 15) (threeOne ++ bytesFor (1 ∷ 0 ∷ [])))
-    (request 1 0 ∷ request 0 0 ∷ keepNodes 0 (0 ∷ []) ∷ request 1 2 ∷ request 0 2 ∷ []) (granted 1 0 ∷ granted 1 2 ∷ done ∷ granted 0 3 ∷ granted 0 4 ∷ [])
+    (request 1 0 ∷ request 0 0 ∷ keepNodes 0 (0 ∷ []) ∷ request 1 2 ∷ request 0 2 ∷ []) (granted 1 1 ∷ granted 1 2 ∷ done ∷ granted 0 3 ∷ granted 0 4 ∷ [])
     ∷ []
 
 -- "An empty map, or one with a repeated or unknown node or a node after an FF, is refused 15, right after 2 in request, release and install"

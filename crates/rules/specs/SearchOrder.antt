@@ -1,12 +1,12 @@
 -- Document 01, "Search order": which nodes a request tries, in which order, and what turn a grant leaves.
-use Prim.Native.Nat.{ℕ}
+use Prim.Native.Nat.{ℕ, _-_, _%_}
 use mathlib.Core.Bool.{Bool, not, _&&_, cond}
 use mathlib.Core.List.{List, [], _∷_, _++_, map}
 use mathlib.Core.Option.{Option, none, some}
 use lib.ListN.{getD}
 use lib.Dec.{ltb, eqb}
 use Rattle.rules.specs.Basics.{keep, first, firstOr, isNil, each, from, around}
-use Rattle.rules.specs.Machine.{pagesOf, distance}
+use Rattle.rules.specs.Machine.{firstPage, pagesOf, distance}
 use Rattle.rules.specs.Masks.{mostNodes, has, both, isEmpty, lowest}
 use Rattle.rules.specs.Records.{Record, Turn, lastIs, Mode, default, preferred, bind, interleave, list, ring, early, unknownMode, modeOf}
 use Rattle.rules.specs.Records.{placesOf, closes}
@@ -105,9 +105,18 @@ freePages counts ledger n = keep (λ p. eqb (getD ledger p 1) 0) (pagesOf counts
 unfoldable pub hasRoom : List ℕ → List ℕ → ℕ → Bool
 hasRoom counts ledger n = not (isNil (freePages counts ledger n))
 
--- "grants its lowest free page": the page of node n that job j gets
+-- M-105: "offset in its node, mod 4": of page p in node n
+unfoldable pub colourOf : List ℕ → ℕ → ℕ → ℕ
+colourOf counts n p = (p - firstPage counts n) % 4
+
+-- M-105: "whose offset in its node, mod 4, equals the job number mod 4"
+unfoldable pub hasColour : List ℕ → ℕ → ℕ → ℕ → Bool
+hasColour counts j n p = eqb (colourOf counts n p) (j % 4)
+
+-- M-105: "the lowest free page whose offset in its node, mod 4, equals the job number mod 4; failing that, the lowest free page": the page
+-- of node n that job j gets
 unfoldable pub pickPage : List ℕ → List ℕ → ℕ → ℕ → ℕ
-pickPage counts ledger j n = firstOr (freePages counts ledger n) 0
+pickPage counts ledger j n = firstOr (keep (hasColour counts j n) (freePages counts ledger n)) (firstOr (freePages counts ledger n) 0)
 
 -- M-100: "Keep one 32-bit free count per node": node n is counted above 0
 unfoldable pub counted : List ℕ → ℕ → Bool
@@ -119,6 +128,6 @@ chosen free ts = first (keep (λ t. counted free (t .node)) ts)
 
 -- for a proof that computes: `unfolding openSearchOrder` opens every definition of this file
 unfoldable pub openSearchOrder : Unit {0}
-unfolding others atDistance near nodeAt ringTries target interleaved listed planIn modeInForce plan tried order freePages hasRoom pickPage
-    counted chosen
+unfolding others atDistance near nodeAt ringTries target interleaved listed planIn modeInForce plan tried order freePages hasRoom
+    colourOf hasColour pickPage counted chosen
 openSearchOrder = tt

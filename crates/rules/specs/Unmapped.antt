@@ -53,7 +53,7 @@ orderUnmapped m t j k =
     order (nodeCount m) (m .distances) (recordAt (t .records) j .allowed)
     (plan (recordAt (t .records) j .allowed) (recordAt (t .records) j) (nodeOfCpu (m .cpuNodes) k))
 
--- "grants its lowest free page", M-100's 14 and 8: the answer has the node's number on the machine
+-- M-105's page, M-100's 14 and 8: the answer has the node's number on the machine
 unfoldable pub serveUnmapped : List ℕ → Tables → ℕ → Option Try → Decision Change
 serveUnmapped counts t j none = refuse 8
 serveUnmapped counts t j (some s) =

@@ -63,7 +63,8 @@ fn order(raw: HostOrder) -> Result<Order, Refusal> {
 
 /// Takes one page for a job, by its record's search order as seen from a CPU, from the allowed nodes that are in its map;
 /// the node is told by the job's own number. `free` has the number of free pages of each node and is kept up; nodes counted
-/// 0 are passed over.
+/// 0 are passed over. In the node that serves, the page is the lowest free one whose offset in the node, mod 4, is the job's
+/// number mod 4; if there is none, the lowest free page.
 #[inline]
 pub fn request(
     counts: &[u32],

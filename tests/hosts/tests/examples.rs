@@ -1,5 +1,5 @@
-//! Every example of document 01, of M-100's free counts, M-103's maps and M-104's closing 255 and notes, on the linked library,
-//! the program and the second implementation, and beside what 01 prints.
+//! Every example of document 01, of M-100's free counts, M-103's maps, M-104's closing 255 and notes and M-105's colours, on the
+//! linked library, the program and the second implementation, and beside what 01 prints.
 
 use hosts::{
     answer_word, journal_by_both, library_replay, list_refusal, name_by_both, places_by_both, read_by_both, words,
@@ -120,9 +120,9 @@ fn every_example_of_document_01() {
     by_journal(&placer, "journal on A", &JOURNAL_ON_A, &ANSWERS_ON_A);
     texts().into_iter().for_each(by_text);
     println!("{} examples of calls, {journals} of them as journals; {} texts; {seen:?}", all().len(), texts().len());
-    // Node 63 does not fit a journal, nor do free counts that are wrong at the start, a record handed in and maps: six
-    // examples, eleven, six and 27.
-    assert_eq!(journals, all().len() - 6 - 11 - 6 - 27);
+    // Node 63 does not fit a journal, nor do free counts that are wrong at the start, a record handed in, maps and a page
+    // table handed in: six examples, twelve, six, 27 and three.
+    assert_eq!(journals, all().len() - 6 - 12 - 6 - 27 - 3);
     assert!(seen.granted > 100 && seen.released > 5 && seen.refused[6] == 24 && seen.refused[8] > 15, "{seen:?}");
     assert!(seen.refused[14] > 5 && seen.refused[15] > 30, "{seen:?}");
 }

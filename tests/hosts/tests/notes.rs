@@ -359,11 +359,13 @@ fn nodes_to_try(tables: &Tables, places: &[AppNode], cpu: usize) -> Vec<u8> {
     nodes
 }
 
-/// The first free page of the first of these nodes that has one.
+/// The page for job 0 in the first of these nodes that has a free one: of its colour, else of any (M-105).
 fn first_page(tables: &Tables, pages: &[u8], nodes: &[u8]) -> Option<u32> {
     nodes.iter().find_map(|node| {
         let start: u32 = tables.counts[..usize::from(*node)].iter().sum();
-        (start..start + tables.counts[usize::from(*node)]).find(|page| pages[*page as usize] == 0)
+        let offsets = 0..tables.counts[usize::from(*node)];
+        let free = offsets.filter(|offset| pages[(start + offset) as usize] == 0);
+        free.min_by_key(|offset| (offset % 4 != 0, *offset)).map(|offset| start + offset)
     })
 }
 
@@ -391,7 +393,7 @@ struct Served {
 }
 
 impl Served {
-    /// A request from a CPU must give the first free page of the nodes to try, or 8; false for 8.
+    /// A request from a CPU must give the job's page of the first node to try that has one, or 8; false for 8.
     fn request(&mut self, lent: &mut LentTables, tables: &Tables, places: &[AppNode], cpu: usize) -> bool {
         let named = places.strip_suffix(&[AppNode::ANY]).unwrap_or(places);
         let of = |places| first_page(tables, lent.pages.now(), &nodes_to_try(tables, places, cpu));

@@ -1,7 +1,7 @@
 //! The calls on lent tables: request, release, install, rebind, clear, M-100's fresh table, and M-103's two of maps.
 
 use crate::machine::{
-    all_pages, byte_of_job, free_counts, free_fits, fresh_tables_fit, lowest_free_page, node_of_page,
+    all_pages, byte_of_job, free_counts, free_fits, fresh_tables_fit, lowest_free_page, node_of_page, page_for_job,
     policy_tables_fit, release_tables_fit, request_tables_fit, FREE,
 };
 use crate::maps::{
@@ -30,24 +30,49 @@ fn no_such_job(jobs: &[u64], job: usize) -> bool {
     job >= jobs.len() / WORDS
 }
 
-/// "The first node in the order with a free page grants its lowest free page" (Search order).
-pub fn first_with_room(counts: &[u32], pages: &[u8], order: &[Try]) -> Option<(Try, usize)> {
+/// "The first node in the order with a free page" (Search order).
+pub fn first_with_room(counts: &[u32], pages: &[u8], order: &[Try]) -> Option<Try> {
     for one in order {
-        if let Some(page) = lowest_free_page(counts, pages, one.node) {
-            return Some((*one, page));
+        if lowest_free_page(counts, pages, one.node).is_some() {
+            return Some(*one);
         }
     }
     None
 }
 
 /// "let requests pass over nodes counted 0": the first node in the order that is not (M-100).
-fn first_counted(free: &[u32], order: &[Try]) -> Option<Try> {
+pub fn first_counted(free: &[u32], order: &[Try]) -> Option<Try> {
     for one in order {
         if free[one.node] > 0 {
             return Some(*one);
         }
     }
     None
+}
+
+/// How a job's request finds its try and page by page counts, pages, free counts and order; else refusal 14 or 8. The tests
+/// put other ways in its stead.
+pub type Find = fn(&[u32], &[u8], &[u32], &[Try], usize) -> Result<(Try, usize), u8>;
+
+/// The first node that is not counted 0 (M-100) picks the page by the job's colour (M-105): "the node picked doesn't change,
+/// nor when refusal 8 is given".
+pub fn find(counts: &[u32], pages: &[u8], free: &[u32], order: &[Try], job: usize) -> Result<(Try, usize), u8> {
+    let counted = first_counted(free, order).ok_or(8)?;
+    let page = page_for_job(counts, pages, counted.node, job).ok_or(14)?;
+    Ok((counted, page))
+}
+
+/// As it was before M-105: such a node "grants its lowest free page" (Search order).
+pub fn find_without_colours(
+    counts: &[u32],
+    pages: &[u8],
+    free: &[u32],
+    order: &[Try],
+    _job: usize,
+) -> Result<(Try, usize), u8> {
+    let counted = first_counted(free, order).ok_or(8)?;
+    let page = lowest_free_page(counts, pages, counted.node).ok_or(14)?;
+    Ok((counted, page))
 }
 
 /// The number that a job is told for a system node; before M-103 it was the node's own.
@@ -131,11 +156,14 @@ pub fn request_without_counts(
     };
     match first_with_room(counts, pages, &asked.order) {
         None => Answer::Refused(8),
-        Some((granted, page)) => grant(pages, jobs, job, &asked, granted, page),
+        Some(granted) => {
+            let page = page_for_job(counts, pages, granted.node, job).expect("the node has room");
+            grant(pages, jobs, job, &asked, granted, page)
+        }
     }
 }
 
-/// Request with maps or, as it was before M-103, without them.
+/// Request with maps or, as it was before M-103, without them; its page is found in one way or another.
 fn request_with(
     counts: &[u32],
     cpus: &[u8],
@@ -146,6 +174,7 @@ fn request_with(
     maps: Option<&[u8]>,
     job: usize,
     cpu: usize,
+    find: Find,
 ) -> Answer {
     if !free_fits(counts, free) {
         return Answer::Refused(1);
@@ -155,14 +184,11 @@ fn request_with(
         Ok(asked) => asked,
         Err(number) => return Answer::Refused(number),
     };
-    let Some(counted) = first_counted(free, &asked.order) else {
-        return Answer::Refused(8);
-    };
-    match lowest_free_page(counts, pages, counted.node) {
-        None => Answer::Refused(14),
-        Some(page) => {
-            free[counted.node] -= 1;
-            grant(pages, jobs, job, &asked, counted, page)
+    match find(counts, pages, free, &asked.order, job) {
+        Err(number) => Answer::Refused(number),
+        Ok((granted, page)) => {
+            free[granted.node] -= 1;
+            grant(pages, jobs, job, &asked, granted, page)
         }
     }
 }
@@ -182,7 +208,7 @@ pub fn request(
     job: usize,
     cpu: usize,
 ) -> Answer {
-    request_with(counts, cpus, distances, pages, jobs, free, Some(maps), job, cpu)
+    request_with(counts, cpus, distances, pages, jobs, free, Some(maps), job, cpu, find)
 }
 
 /// Request as it was before M-103: refusals in the order 1, 2, 3, 4, 14, 8; nodes by the machine's own numbers.
@@ -196,7 +222,7 @@ pub fn request_without_maps(
     job: usize,
     cpu: usize,
 ) -> Answer {
-    request_with(counts, cpus, distances, pages, jobs, free, None, job, cpu)
+    request_with(counts, cpus, distances, pages, jobs, free, None, job, cpu, find)
 }
 
 /// A release's refusals 1, 2, 15, 10, in this order; else the node of the page and the number that the job is told for it
@@ -663,7 +689,32 @@ pub fn apply_without_maps(nodes: usize, tables: &mut Tables, call: &Call) -> Ans
     }
 }
 
+/// Makes one call, a request finding its page in another way; no other call finds one.
+pub fn apply_finding(nodes: usize, tables: &mut Tables, call: &Call, find: Find) -> Answer {
+    let Tables { counts, cpus, distances, pages, jobs, free, maps } = tables;
+    match call {
+        Call::Request { job, cpu } => {
+            request_with(counts, cpus, distances, pages, jobs, free, Some(maps), *job, *cpu, find)
+        }
+        _ => apply_with(nodes, tables, call),
+    }
+}
+
+/// Makes one call as it was before M-105: the lowest free page of the node is granted, whatever the job.
+pub fn apply_without_colours(nodes: usize, tables: &mut Tables, call: &Call) -> Answer {
+    apply_finding(nodes, tables, call, find_without_colours)
+}
+
 /// Makes one call on one unchanged machine (The lists of demand 3).
 pub fn apply(tables: &mut Tables, call: &Call) -> Answer {
     apply_with(tables.counts.len(), tables, call)
+}
+
+/// Makes calls one by one, from a start, and hands on each with the tables before it and its answer.
+pub fn apply_each(start: &Tables, calls: &[Call], mut enter: impl FnMut(&Tables, &Call, Answer)) {
+    let mut tables = start.clone();
+    for call in calls {
+        let before = tables.clone();
+        enter(&before, call, apply(&mut tables, call));
+    }
 }

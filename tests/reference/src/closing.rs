@@ -1,6 +1,6 @@
 //! M-104's closing 255, seen from outside: how often calls meet it, so that a test can say that it was not empty.
 
-use crate::calls::{apply, Answer, Call, Tables};
+use crate::calls::{apply, apply_each, Answer, Call, Tables};
 use crate::record::{closes, has_a_list, places_of, read, write, CLOSING, WORDS};
 
 /// What calls with a 255 among their places showed (M-104).
@@ -57,11 +57,7 @@ impl Closings {
 
     /// Makes the calls one by one, from a start, and enters them.
     pub fn enter_list(&mut self, start: &Tables, calls: &[Call]) {
-        let mut tables = start.clone();
-        for call in calls {
-            let before = tables.clone();
-            self.enter(&before, call, apply(&mut tables, call));
-        }
+        apply_each(start, calls, |before, call, answer| self.enter(before, call, answer));
     }
 
     /// Each came at least so often.

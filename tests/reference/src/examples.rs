@@ -1,9 +1,10 @@
 //! Document 01's examples and easy mistakes as one table: calls, and what 01 prints for them; a few readings of its rules;
-//! and what M-100 says of free counts, M-103 of maps, M-104 of a closing 255.
+//! and what M-100 says of free counts, M-103 of maps, M-104 of a closing 255. M-105's are in `colour_examples`.
 //!
 //! This crate runs the table on the second implementation; `hosts` runs it on the linked library and the program too.
 
 use crate::calls::{apply, Answer, Call, Tables};
+use crate::colour_examples;
 use crate::journal::{answer_bytes, call_bytes, machine_bytes, MOST_NODES};
 use crate::maps::{identity_maps, map_with, AppNode};
 use crate::record::{BIND, DEFAULT, EARLY, INTERLEAVE, LIST, NO_FLAG, PREFERRED, RELATIVE, RING, STATIC, WORDS};
@@ -35,7 +36,7 @@ pub struct Example {
 }
 
 impl Example {
-    fn new(name: &str, start: Tables) -> Example {
+    pub(crate) fn new(name: &str, start: Tables) -> Example {
         Example { name: name.to_string(), start, steps: Vec::new() }
     }
 
@@ -49,7 +50,7 @@ impl Example {
         self
     }
 
-    fn call(self, call: Call, answer: Answer) -> Example {
+    pub(crate) fn call(self, call: Call, answer: Answer) -> Example {
         self.step(Step::Call(call, answer))
     }
 
@@ -109,7 +110,7 @@ impl Example {
         self.step(Step::Effective(mask(nodes), text))
     }
 
-    fn free(self, counts: &[u32]) -> Example {
+    pub(crate) fn free(self, counts: &[u32]) -> Example {
         self.step(Step::Free(counts.to_vec()))
     }
 
@@ -151,10 +152,10 @@ impl Example {
 }
 
 /// A page granted, or given back, its node by the job's own number.
-fn granted(node: u8, page: u32) -> Answer {
+pub(crate) fn granted(node: u8, page: u32) -> Answer {
     Answer::Granted { node: AppNode(node), page }
 }
-fn released(node: u8, page: u32) -> Answer {
+pub(crate) fn released(node: u8, page: u32) -> Answer {
     Answer::Released { node: Some(AppNode(node)), page }
 }
 
@@ -169,19 +170,19 @@ fn mask(nodes: &[usize]) -> u64 {
 }
 
 /// A machine with free pages, which are counted, and eight fresh jobs that number their nodes as it does.
-fn machine(counts: &[u32], cpus: &[u8], distances: Vec<u8>) -> Tables {
+pub(crate) fn machine(counts: &[u32], cpus: &[u8], distances: Vec<u8>) -> Tables {
     let pages = vec![0; counts.iter().sum::<u32>() as usize];
     let (maps, counts, free) = (identity_maps(counts.len(), 8), counts.to_vec(), counts.to_vec());
     Tables { counts, cpus: cpus.to_vec(), distances, pages, jobs: vec![0; 8 * WORDS], free, maps }
 }
 
 /// Distances of 10 on the diagonal and another number elsewhere.
-fn flat(nodes: usize, elsewhere: u8) -> Vec<u8> {
+pub(crate) fn flat(nodes: usize, elsewhere: u8) -> Vec<u8> {
     (0..nodes * nodes).map(|cell| if cell / nodes == cell % nodes { 10 } else { elsewhere }).collect()
 }
 
 /// Machine A (Shown by example).
-fn fresh_a() -> Tables {
+pub(crate) fn fresh_a() -> Tables {
     let distances = vec![10, 20, 20, 30, 20, 10, 30, 20, 20, 30, 10, 20, 30, 20, 20, 10];
     machine(&[2, 2, 0, 2], &[0, 0, 1, 1, 2, 2, 3, 3], distances)
 }
@@ -222,6 +223,11 @@ pub fn all() -> Vec<Example> {
         closing_255_is_near(),
         closing_255_in_maps(),
         other_255s(),
+        colour_examples::on_machine_a(),
+        colour_examples::in_larger_nodes(),
+        colour_examples::between_nodes(),
+        colour_examples::between_jobs(),
+        colour_examples::handed_in(),
     ]
     .concat()
 }

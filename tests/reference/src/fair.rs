@@ -68,7 +68,7 @@ fn place_granted(tables: &Tables, job: usize, cpu: usize) -> Option<usize> {
     let machine = Machine { nodes: tables.counts.len(), cpus: &tables.cpus, distances: &tables.distances };
     let order = search_order(machine, &read(&tables.jobs, job), allowed(tables, job), cpu);
     match first_with_room(&tables.counts, &tables.pages, &order) {
-        Some((granted, _)) => match granted.part {
+        Some(granted) => match granted.part {
             Part::Place(place) => Some(place),
             _ => None,
         },

@@ -103,9 +103,11 @@ fn some_counts(dice: &mut Dice, nodes: usize) -> Vec<u32> {
     let mut counts = Vec::new();
     for _ in 0..nodes {
         let count = match style {
-            0..=14 => dice.below(4),
-            15..=24 => dice.between(1, 2),
-            25..=31 => dice.below(12),
+            0..=9 => dice.below(4),
+            10..=16 => dice.between(1, 2),
+            17..=24 => dice.below(12),
+            // Every colour more than once in most nodes, not as often each (M-105).
+            25..=31 => dice.between(5, 11),
             32..=36 => {
                 if dice.chance(35) {
                     dice.between(1, 6)
@@ -840,14 +842,20 @@ fn start_record(dice: &mut Dice, nodes: usize, ring_or_interleave: bool) -> [u64
     }
 }
 
-/// Some pages held at the start, by jobs of the table or by nobody known.
+/// Some pages held at the start, by jobs of the table or by nobody known: here and there, or the low part of each node.
 fn fill_some_pages(dice: &mut Dice, tables: &mut Tables) {
     let job_count = tables.jobs.len() / WORDS;
     let percent = dice.pick(&[0, 0, 20, 50, 90, 100]);
-    for page in 0..tables.pages.len() {
-        if dice.chance(percent) {
-            tables.pages[page] = if dice.chance(80) { dice.between(1, job_count) as u8 } else { dice.byte() };
+    let low_parts = dice.chance(30);
+    let mut first = 0;
+    for count in &tables.counts {
+        let low = if low_parts { dice.below(*count as usize + 1) } else { 0 };
+        for (offset, page) in tables.pages[first..].iter_mut().take(*count as usize).enumerate() {
+            if offset < low || (!low_parts && dice.chance(percent)) {
+                *page = if dice.chance(80) { dice.between(1, job_count) as u8 } else { dice.byte() };
+            }
         }
+        first += *count as usize;
     }
 }
 
@@ -1593,6 +1601,7 @@ mod tests {
     use super::*;
     use crate::calls::apply_with;
     use crate::journal::{run, ANSWER};
+    use crate::machine::first_page;
     use crate::record::well_formed;
     use crate::text::{read_nodes, write_nodes};
     use std::collections::BTreeSet;
@@ -1758,12 +1767,18 @@ mod tests {
         let mut one_way = 0;
         let mut second_tens = 0;
         let mut most_cpus = 0;
+        let mut uneven = 0;
         for seed in 0..200 {
             let (start, _) = journal_parts(seed, 0);
             let nodes = start.counts.len();
             zero_pages += usize::from(start.counts.contains(&0));
             most_pages += usize::from(start.pages.len() == 16_384);
             most_cpus += usize::from(start.cpus.len() == 64);
+            // More pages than colours, not as often each, and offsets that differ from page numbers (M-105).
+            let is_uneven = |node: usize| {
+                start.counts[node] > 4 && start.counts[node] % 4 != 0 && first_page(&start.counts, node) % 4 != 0
+            };
+            uneven += usize::from((0..nodes).any(is_uneven));
             unreachable += usize::from(start.distances.contains(&255));
             second_tens += usize::from(start.distances.iter().filter(|far| **far == 10).count() > nodes);
             let there_and_back =
@@ -1773,6 +1788,7 @@ mod tests {
         for count in [zero_pages, most_pages, unreachable, one_way, second_tens, most_cpus] {
             assert!(count >= 3);
         }
+        assert!(uneven >= 60, "{uneven}");
     }
 
     #[test]

@@ -1,4 +1,4 @@
-//! The second, independent implementation of document 01, as document 02 amends it: M-100 to M-104.
+//! The second, independent implementation of document 01, as document 02 amends it: M-100 to M-105.
 //!
 //! Written from the papers alone, to be compared with the real one byte for
 //! byte. Plain and slow on purpose: every function is named after the papers'
@@ -8,6 +8,8 @@
 
 pub mod calls;
 pub mod closing;
+mod colour_examples;
+pub mod colours;
 pub mod examples;
 pub mod fair;
 pub mod generate;

@@ -18,6 +18,8 @@ pub const NEAREST: u8 = 10;
 pub const UNREACHABLE: u8 = 255;
 /// "0 is free" (The machine).
 pub const FREE: u8 = 0;
+/// How many colours of pages there are: "mod 4" (M-105).
+pub const COLOURS: usize = 4;
 
 /// N lies in 1 to 64 (The machine; refusal 1).
 pub fn nodes_fit(nodes: usize) -> bool {
@@ -142,6 +144,19 @@ pub fn lowest_free_page(counts: &[u32], pages: &[u8], node: usize) -> Option<usi
     None
 }
 
+/// "the lowest free page whose offset in its node, mod 4, equals the job number mod 4; failing that, the lowest free page"
+/// (M-105). The offset is the page's number less its node's first page.
+pub fn page_for_job(counts: &[u32], pages: &[u8], node: usize, job: usize) -> Option<usize> {
+    let first = first_page(counts, node);
+    for offset in 0..counts[node] as usize {
+        let page = first + offset;
+        if pages[page] == FREE && offset % COLOURS == job % COLOURS {
+            return Some(page);
+        }
+    }
+    lowest_free_page(counts, pages, node)
+}
+
 /// The number of free pages of each node, which matching counts are (M-100). Pages that a short table lacks are not free.
 pub fn free_counts(counts: &[u32], pages: &[u8]) -> Vec<u32> {
     let mut free = Vec::new();
@@ -227,6 +242,21 @@ mod tests {
         assert_eq!(node_of_page(&counts, 5), None);
         assert_eq!(lowest_free_page(&counts, &[1, 0, 9, 255, 0], 2), Some(4));
         assert_eq!(lowest_free_page(&counts, &[1, 0, 9, 255, 0], 1), None);
+    }
+
+    #[test]
+    fn a_page_of_the_jobs_colour_by_its_offset() {
+        let counts = [3, 0, 6];
+        let all_free = [0; 9];
+        for (job, page) in [(0, 3), (1, 4), (2, 5), (3, 6), (4, 3), (5, 4), (63, 6)] {
+            assert_eq!(page_for_job(&counts, &all_free, 2, job), Some(page), "job {job}");
+        }
+        // The lowest of the colour; with the colour gone, the lowest of all.
+        assert_eq!(page_for_job(&counts, &[0, 0, 0, 9, 0, 0, 0, 0, 0], 2, 4), Some(7));
+        assert_eq!(page_for_job(&counts, &[0, 0, 0, 9, 0, 0, 0, 9, 0], 2, 4), Some(4));
+        assert_eq!(page_for_job(&counts, &all_free, 0, 3), Some(0));
+        assert_eq!(page_for_job(&counts, &all_free, 1, 0), None);
+        assert_eq!(page_for_job(&counts, &[0, 0, 0, 1, 2, 3, 4, 5, 255], 2, 1), None);
     }
 
     #[test]

@@ -9,7 +9,7 @@ use Rattle.rules.specs.Calls.{Tables, tablesOf, mapOf, requestTablesOk, applied
 use Rattle.rules.proofs.Machine.{in-order}
 use Rattle.machine.specs.Tables.{machineOf}
 use Rattle.placement.proofs.InOrder.{request-tested}
-use Rattle.placement.proofs.Hints.{starts-hint}
+use Rattle.placement.proofs.Hints.{no-hints}
 use Rattle.placement.proofs.Requests.{request-map}
 use Rattle.placement.proofs.request.Statement.{statement}
 use Rattle.placement.proofs.request.Tie as tie
@@ -62,7 +62,7 @@ request-at-requires : tie.Need-request-at-requires
 request-at-requires c κs =
     let known = c .before .before .before .before .before in
     let made = known .before .before .before .before .starts-of .ensures in
-    (in-order-all known, made, starts-hint _ made)
+    (in-order-all known, made, no-hints _ _)
 
 -- what was placed, and the tables before it
 abbrev did : tie.After-request-at → tie.Else2
@@ -90,6 +90,7 @@ request-spec =
     pages-end-requires
     (search needs)
     returns-2
+    (search needs)
     request-at-requires
     tell-requires
     (search needs) (search needs) (search needs)

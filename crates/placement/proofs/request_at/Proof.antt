@@ -22,7 +22,7 @@ tables s = tablesOf (s .args .pages .now) (s .args .jobs .now) (s .args .free .n
 
 -- the call, from the place after the tests
 abbrev call : tie.After-admit → tie.Start
-call c = let lent = c .before .before .before .before in lent .before .before .before .before .before .before .before
+call c = let lent = c .before .before .before .before in lent .before .before .before .before .before .before .before .before
 
 -- the tests are passed
 passed : (c : tie.After-admission) →
@@ -66,7 +66,7 @@ pub request-at-spec : {M : Type 1} → statement M
 request-at-spec =
     tie.close
     (tie.spec
-    (λ c κs. let lent = c .before .before .before in lent .before .before .before .before .before .before .before .pre .0)
+    (λ c κs. let lent = c .before .before .before in lent .before .before .before .before .before .before .before .before .pre .0)
     (search needs)
     (λ c. ltb-true _ _ (passes (c .before .before) .cpu))
     serve-requires

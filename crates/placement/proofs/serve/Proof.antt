@@ -16,7 +16,7 @@ use Rattle.placement.proofs.serve.Tie as tie
 
 -- the call, from the place after the record is decoded
 abbrev call : tie.After-job → tie.Start
-call c = c .before .before .before .before .before .before
+call c = c .before .before .before .before .before .before .before
 
 abbrev tables : tie.Start → List ℕ → Tables
 tables s maps = tablesOf (s .args .pages .now) (s .args .jobs .now) (s .args .free .now) maps

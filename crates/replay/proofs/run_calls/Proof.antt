@@ -12,7 +12,7 @@ use Rattle.machine.specs.Tables.{machineOf}
 use Rattle.rules.proofs.Decisions.{accepted-some}
 use Rattle.rules.proofs.InOrder.{SameLengths, same-lengths, lengths-then, same-lengths-ok}
 use Rattle.placement.specs.Hints.{Hints}
-use Rattle.placement.proofs.Hints.{starts-hint}
+use Rattle.placement.proofs.Hints.{zero-hints}
 use Rattle.replay.specs.Encoding.{callIn, callCount, wordsOf}
 use Rattle.replay.proofs.Words.{part-words, words-whole, call-ok}
 use Rattle.replay.proofs.Run.{Done, begun, advance, accepted, finished}
@@ -46,8 +46,8 @@ abbrev words : tie.Start Inv-loop μ-loop → List ℕ
 words s = s .args .calls .now
 
 -- the beginning, from the place before the loop and from its head; and a round of the loop, from its end
-abbrev first : tie.After-hints Inv-loop μ-loop → tie.Start Inv-loop μ-loop
-first c = let lent = c .before .before .before .before .before in lent .before .before .before .before .before
+abbrev first : tie.After-slice-known5 Inv-loop μ-loop → tie.Start Inv-loop μ-loop
+first c = let lent = c .before .before .before .before in lent .before .before .before .before .before
 
 abbrev start : tie.At-loop Inv-loop μ-loop → tie.Start Inv-loop μ-loop
 start l = first (l .before)
@@ -67,7 +67,7 @@ loop-holds c = record {
   long = same-lengths;
   long-answers = refl;
   long-list = refl;
-  hinted = starts-hint _ (first c .pre .1);
+  hinted = zero-hints _ _ 320;
   done = begun _ _ _ _;
 }
 

@@ -19,12 +19,13 @@ tables s = tablesOf (s .args .pages .now) (s .args .jobs .now) (s .args .free .n
 -- what the release leaves: the hints that its page gives, and a node and a page that a machine may have
 after : (c : tie.After-release-at) →
     let s = call c in
-    Hints (s .args .counts .now) (c .release-at .last .1 .1 .0) (hinted (s .args .hints .now) (c .release-at .result))
-    × Named (c .release-at .result)
+    Hints (s .args .counts .now) (c .release-at .last .1 .1 .0) (hinted (s .args .starts .now) (s .args .job) (s .args .hints .now) (c .release-at .result))
+    × Named (s .args .starts .now) (c .release-at .result)
 after c =
     let s = call c in
     let i = pages-in-order _ _ _ (fresh-ok _ (tables s) (s .pre .0)) .counts-ok in
-    release-hints (s .args .counts .now) (tables s) (s .args .hints .now) i (s .pre .2) (s .args .job) (s .args .page) (c .release-at .result)
+    release-hints (s .args .counts .now) (s .args .starts .now) (tables s) (s .args .hints .now) i (s .pre .1) (s .pre .2) (s .args .job) (s .args .page)
+    (c .release-at .result)
     (mapOf (tables s) (s .args .job)) (c .release-at .ensures .1) (c .release-at .ensures .0)
 
 keep-requires : tie.Need-keep-requires

@@ -13,7 +13,7 @@ use Rattle.book.proofs.hints.request.Tie as tie
 
 -- the call, from the place after the request; the machine and the tables
 abbrev call : tie.After-request-at → tie.Start
-call c = let lent = c .before .before .before .before .before in lent .before .before .before .before .before .before .before
+call c = let lent = c .before .before .before .before .before in lent .before .before .before .before .before .before .before .before
 
 abbrev machine : tie.Start → Machine
 machine s = machineOf (s .args .counts .now) (s .args .cpus .now) (s .args .distances .now)
@@ -24,12 +24,14 @@ tables s = tablesOf (s .args .pages .now) (s .args .jobs .now) (s .args .free .n
 -- what the request leaves: the hints that its page gives, and a node and a page that a machine may have
 after : (c : tie.After-request-at) →
     let s = call c in
-    Hints (s .args .counts .now) (c .request-at .last .1 .1 .1 .1 .1 .0) (hinted (s .args .hints .now) (c .request-at .result))
-    × Named (c .request-at .result)
+    Hints (s .args .counts .now) (c .request-at .last .1 .1 .1 .1 .1 .0)
+    (hinted (s .args .starts .now) (s .args .job) (s .args .hints .now) (c .request-at .result))
+    × Named (s .args .starts .now) (c .request-at .result)
 after c =
     let s = call c in
     let i = pages-in-order _ _ _ (fresh-ok _ (tables s) (release-ok (machine s) (tables s) (s .pre .0))) .counts-ok in
-    request-hints (machine s) (tables s) (s .args .hints .now) i (s .pre .2) (s .args .job) (s .args .cpu) (c .request-at .result)
+    request-hints (machine s) (s .args .starts .now) (tables s) (s .args .hints .now) i (s .pre .1) (s .pre .2) (s .args .job) (s .args .cpu)
+    (c .request-at .result)
     (mapOf (tables s) (s .args .job)) (c .request-at .ensures .1) (c .request-at .ensures .0)
 
 keep-requires : tie.Need-keep-requires

@@ -9,7 +9,7 @@ use Rattle.rules.specs.Calls.{tablesOf, requestTablesOk}
 use Rattle.rules.specs.Journal.{machineSize, machineIn}
 use Rattle.rules.proofs.Machine.{in-order}
 use Rattle.machine.specs.Tables.{machineOf}
-use Rattle.placement.proofs.Hints.{starts-hint}
+use Rattle.placement.proofs.Hints.{zero-hints}
 use Rattle.journal.proofs.MachineRecord.{Good, good-opening, head-in, Cut, cut}
 use Rattle.journal.proofs.run.run_part.Statement.{statement}
 use Rattle.journal.proofs.run.run_part.Tie as tie
@@ -55,7 +55,7 @@ starts-of-requires c κs =
 run-records-requires : tie.Need-run-records-requires
 run-records-requires c κs =
     let made = c .before .before .before .before .before .before .before in
-    (tables-ok (made .before), made .starts-of .ensures, starts-hint _ (made .starts-of .ensures))
+    (tables-ok (made .before), made .starts-of .ensures, zero-hints _ _ 320)
 
 returns : tie.Need-returns
 returns c =

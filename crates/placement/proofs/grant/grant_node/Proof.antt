@@ -13,7 +13,7 @@ use Rattle.placement.proofs.grant.grant_node.Tie as tie
 
 -- the call, from the place after the page is looked for; its tables, and the node as a try
 abbrev call : tie.After-mark-page → tie.Start
-call c = c .before .before .before .before .before .before
+call c = c .before .before .before .before .before .before .before
 
 abbrev tables : tie.Start → List ℕ → Tables
 tables s maps = tablesOf (s .args .pages .now) (s .args .jobs .now) (s .args .free .now) maps
@@ -52,7 +52,7 @@ grant-node-spec =
     tie.close
     (tie.spec
     (search needs)
-    (λ c κs. let s = c .before .before .before .before .before in (s .pre .0, s .pre .2 .node, s .pre .3))
+    (λ c κs. let s = c .before .before .before .before .before .before in (s .pre .0, s .pre .2 .node, s .pre .3))
     (search needs) (search needs) (search needs) (search needs) (search needs) (search needs) (search needs)
     store-cursor-requires
     (search needs) (search needs) (search needs) (search needs)
