@@ -60,7 +60,7 @@ pub fn request_at<const KEPT: bool>(
 
 /// The first node in the search order that is counted above 0, and the cursor after a grant from it.
 #[inline(always)]
-fn choose<const KEPT: bool>(
+pub(crate) fn choose<const KEPT: bool>(
     machine: &Machine,
     free: &Free<KEPT>,
     record: Record,

@@ -1,6 +1,7 @@
 //! The free counts, and the choice of a node by them.
 
 use crate::machine::{Machine, Starts};
+use crate::masks::nodes_with;
 use crate::record::Record;
 
 /// One count for each node, as lent. Where KEPT, the mask is that of the nodes counted above 0; else it says nothing.
@@ -14,14 +15,21 @@ pub type Lent<'a> = Free<'a, false>;
 /// Counts for a run of calls: no other hand is on them meanwhile.
 pub type Kept<'a> = Free<'a, true>;
 
-/// The nodes counted above 0, by eights: the counts become bytes of 0 and 1, and a product gathers these to eight bits.
+/// The nodes counted above 0.
 fn counted(counts: &[u32]) -> u64 {
-    let (eights, rest) = counts.as_chunks();
-    let highest = rest.iter().rev().fold(0, |mask, count| mask << 1 | u64::from(*count != 0));
-    eights.iter().rev().fold(highest, |mask, eight: &[u32; 8]| {
-        let bytes = eight.map(|count| u8::from(count != 0));
-        mask << 8 | u64::from_le_bytes(bytes).wrapping_mul(0x0102_0408_1020_4080) >> 56
-    })
+    nodes_with(counts, |count| count != 0)
+}
+
+impl Kept<'_> {
+    /// Counts to choose a node by, none of them to be written: their mask alone. None if there is not one for each node.
+    pub fn to_look(counts: &[u32], nodes: usize) -> Option<Self> {
+        (counts.len() == nodes).then(|| Free { counts: &mut [], mask: counted(counts) })
+    }
+
+    /// The nodes counted above 0.
+    pub fn nodes(&self) -> u64 {
+        self.mask
+    }
 }
 
 impl<'a, const KEPT: bool> Free<'a, KEPT> {

@@ -17,7 +17,7 @@ pub trait Hints {
 }
 
 /// A node's pages: where they begin, and they.
-fn pages_of<'a>(starts: &Starts, pages: &'a [u8], node: usize) -> (usize, &'a [u8]) {
+pub fn pages_of<'a>(starts: &Starts, pages: &'a [u8], node: usize) -> (usize, &'a [u8]) {
     let (start, end) = (starts[node] as usize, starts[node + 1] as usize);
     (start, &pages[start..end])
 }

@@ -13,6 +13,8 @@ mod machine;
 mod maps;
 mod masks;
 pub mod near;
+pub mod questions;
+pub mod reasons;
 mod record;
 pub mod rows;
 pub mod search;

@@ -1,5 +1,7 @@
 //! The machine's tables, tested once.
 
+use crate::masks::nodes_with;
+
 /// The machine, and where each node's pages begin.
 pub struct Machine<'a> {
     pub nodes: usize,
@@ -62,6 +64,11 @@ impl<'a> Machine<'a> {
         let counts_ok = find_starts(starts, counts, pages);
         let all_ok = counts_ok && cpus_ok(nodes, cpus) && distances_ok(nodes, distances) && jobs_ok(jobs);
         all_ok.then_some(Machine { nodes, cpus, distances, starts })
+    }
+
+    /// The nodes that can be reached from x.
+    pub fn reached(&self, x: usize) -> u64 {
+        nodes_with(&self.distances[x * self.nodes..][..self.nodes], |far| far != 255)
     }
 
     /// The nearest of these nodes in row x that can be reached, the lowest of those as near.

@@ -9,6 +9,24 @@ pub fn below(nodes: usize) -> u64 {
     }
 }
 
+/// The nodes whose entry pleases, by eights: the entries become bytes of 0 and 1, and a product gathers these to eight bits.
+#[inline(always)]
+pub fn nodes_with<T: Copy>(entries: &[T], pleases: impl Fn(T) -> bool) -> u64 {
+    let (eights, rest) = entries.as_chunks();
+    let highest = rest.iter().rev().fold(0, |mask, entry| mask << 1 | u64::from(pleases(*entry)));
+    eights.iter().rev().fold(highest, |mask, eight: &[T; 8]| {
+        let bytes = eight.map(|entry| u8::from(pleases(entry)));
+        mask << 8 | u64::from_le_bytes(bytes).wrapping_mul(0x0102_0408_1020_4080) >> 56
+    })
+}
+
+/// Eight bits as bytes of 0 and 1.
+pub fn spread(bits: u8) -> u64 {
+    const ONES: u64 = 0x0101_0101_0101_0101;
+    let each = (ONES * u64::from(bits)) & 0x8040_2010_0804_0201;
+    (each + 0x7F * ONES) >> 7 & ONES
+}
+
 /// The nodes of these ranks: each allowed node takes the next bit.
 fn deposit(ranks: u64, allowed: u64) -> u64 {
     let (mut ranks, mut rest, mut mask) = (ranks, allowed, 0);

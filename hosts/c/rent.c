@@ -1,5 +1,5 @@
-/* Rents out machine A of document 01 to one job, as ring {3,3,1}, then to a tenant that numbers its nodes from 0, and loads a
- * program that names its memory: prints each answer.
+/* Rents out machine A of document 01 to one job, as ring {3,3,1}, then to a tenant that numbers its nodes from 0, loads a
+ * program that names its memory, and asks why a node serves or not: prints each answer.
  *
  *   rt staticlib spirerivet
  *   gcc -std=c11 hosts/c/rent.c target/staticlib/libspirerivet.a -o rent && ./rent | diff hosts/c/expected.txt -
@@ -97,6 +97,26 @@ static void show_free(void)
     printf("\n");
 }
 
+/* For the support desk, by the machine's numbers: why the job's next page from the CPU would come from where it would. */
+static void show_why(size_t job, size_t cpu)
+{
+    static const char *const words[] = {"?", "not allowed", "outside the bind set", "unreachable", "not named", "full",
+                                        "chosen", "later"};
+    uint8_t out[NODES];
+    struct spire_number n =
+        spire_reasons(counts, NODES, cpus, CPUS, distances, sizeof distances, pages, PAGES, jobs, JOBS * SPIRE_JOB_WORDS,
+                      free_counts, NODES, maps, sizeof maps, job, cpu, out, sizeof out);
+
+    if (n.refusal != SPIRE_DONE) {
+        printf("why: refused %u\n", (unsigned)n.refusal);
+        return;
+    }
+    printf("why:");
+    for (size_t node = 0; node < n.value; node++)
+        printf("%s %zu %s", node == 0 ? "" : ",", node, words[out[node] <= SPIRE_LATER ? out[node] : 0]);
+    printf("\n");
+}
+
 static void show_nodes(const char *text)
 {
     uint8_t out[SPIRE_TEXT_BYTES];
@@ -162,10 +182,12 @@ static void rent_all(void)
     show("map 0,1,2,3", set_map(RENTER, all, sizeof all));
     show("allow 0-3", allow(RENTER, 0xF));
     show("ring 3,3,1", ring(RENTER, places, sizeof places));
+    show_why(RENTER, 0); /* Node 0 has room, and no place names it. */
     do {
         a = request(RENTER, 0);
         show("request", a);
     } while (a.refusal == SPIRE_DONE);
+    show_why(RENTER, 0); /* Why refusal 8: none is chosen. */
     show_free();
 
     show("release 2", release(RENTER, 2));
@@ -174,6 +196,7 @@ static void rent_all(void)
     show("request", request(RENTER, CPUS));
 
     free_counts[3] = 1; /* Another hand on the counts: node 3 is full. */
+    show_why(RENTER, 0);
     a = request(RENTER, 0);
     show("request", a);
     if (a.refusal == SPIRE_WRONG_COUNT)
@@ -198,6 +221,7 @@ static void rent_two(void)
     show("tenant: keep 1", keep(TENANT, second, sizeof second));
     show("tenant: ring 1,0", ring(TENANT, places, sizeof places));
     show("tenant: request", request(TENANT, 0));
+    show_why(TENANT, 0); /* Node 0 has room and is named, but the tenant has dropped it from its map. */
     show("tenant: release 1", release(TENANT, 1));
     show("tenant: release 5", release(TENANT, 5));
 }
@@ -217,6 +241,7 @@ static void rent_named(void)
     show("tenant: map 0,1", set_map(TENANT, two, sizeof two));
     go_by(TENANT, note, (size_t)length.value, SPIRE_TEXT);
     show("tenant: request", request(TENANT, 0));
+    show_why(TENANT, 0); /* ANY: node 0 is named by no place, but the CPU reaches it. */
     show("tenant: request", request(TENANT, 0));
     go_by(TENANT, note, (size_t)length.value, SPIRE_DATA);
     go_by(TENANT, note, (size_t)length.value - 1, SPIRE_TEXT);

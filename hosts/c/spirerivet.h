@@ -50,12 +50,13 @@ enum spire_refusal {
     SPIRE_NO_ROOM = 8,            /* every node in the search order is counted 0: full, if the counts match */
     SPIRE_NOTHING_EFFECTIVE = 9,  /* the rebind would leave the job's mask empty */
     SPIRE_NOT_HELD = 10,          /* no such page, or not this job's */
-    SPIRE_OUTPUT_TOO_SHORT = 11,
+    SPIRE_OUTPUT_TOO_SHORT = 11,  /* for what would be written; reasons need a byte for each node */
     SPIRE_BAD_TEXT = 12,
     SPIRE_DAMAGED_JOURNAL = 13,   /* a replay's list of calls has an unknown kind or is cut short */
-    SPIRE_WRONG_COUNT = 14,       /* a free count disagrees with the page table: a node counted above 0 has no free page, or
-                                   * a release would count more free pages than its node has. Count the free pages of each
-                                   * node anew, or call spire_fresh when no page is in use */
+    SPIRE_WRONG_COUNT = 14,       /* a free count disagrees with the page table: a node counted above 0 has no free page (in
+                                   * a request and in its reasons), or a release would count more free pages than its node
+                                   * has. Count the free pages of each node anew, or call spire_fresh when no page is in
+                                   * use */
     SPIRE_BAD_MAP = 15,           /* the job's map is none: empty, a node twice, a node that the machine does not have, or one
                                    * after an SPIRE_MAP_END; set it anew by spire_set_map. Or the list of spire_keep_nodes or
                                    * spire_set_map is no good one */
@@ -77,6 +78,17 @@ enum spire_mode {
 enum spire_list { SPIRE_TEXT = 0, SPIRE_DATA = 1 };
 
 enum spire_flag { SPIRE_PLAIN = 0, SPIRE_STATIC = 1, SPIRE_RELATIVE = 2 };
+
+/* Why a node would serve a request, or not: the first that fits. */
+enum spire_reason {
+    SPIRE_NOT_ALLOWED = 1,        /* to the job; or outside its map */
+    SPIRE_OUTSIDE_BIND = 2,       /* of a bind mask; a static one of which nothing is left is none */
+    SPIRE_UNREACHABLE = 3,        /* modes 0 to 3: at distance 255 from the node that the search begins at */
+    SPIRE_NOT_NAMED = 4,          /* modes 4 to 6: by any place; under a closing SPIRE_ANY nor reachable from the CPU's node */
+    SPIRE_FULL = 5,               /* counted 0 */
+    SPIRE_CHOSEN = 6,             /* the page would come from here */
+    SPIRE_LATER = 7               /* had room, but its turn came after the chosen one's */
+};
 
 /* An answer; the node by its application number. Where there is no node and no page: SPIRE_NO_NODE, SPIRE_NO_PAGE. */
 struct spire_answer {
@@ -121,6 +133,16 @@ struct spire_answer spire_release(const uint32_t *counts, size_t nodes, uint8_t 
  * free_counts. Refusal 1. */
 struct spire_answer spire_fresh(const uint32_t *counts, size_t nodes, uint8_t *pages, size_t page_count,
                                 uint32_t *free_counts, size_t free_len);
+
+/* Why a request of the job from the CPU would be served where it would be: a byte of enum spire_reason for each node of the
+ * machine, by system numbers, at the start of out; N. One node is SPIRE_CHOSEN if the request would be granted, none if it
+ * would be refused 8, which is no refusal here. Each reason is true of the search order if the free counts match the pages.
+ * Writes N bytes of out; 64 are always enough. Refusals 1, 2, 15, 3, 4, 11, 14. */
+struct spire_number spire_reasons(const uint32_t *counts, size_t nodes, const uint8_t *cpus, size_t cpu_count,
+                                  const uint8_t *distances, size_t distance_count, const uint8_t *pages, size_t page_count,
+                                  const uint64_t *jobs, size_t job_words, const uint32_t *free_counts, size_t free_len,
+                                  const uint8_t *maps, size_t map_bytes, size_t job, size_t cpu,
+                                  uint8_t *out, size_t out_bytes);
 
 /* A job's policy: a mask (modes 1 to 3) or places, a node each (modes 4 to 6), by application numbers; a relative mask has
  * ranks. The record gets system numbers. In mode SPIRE_LIST the last place may be SPIRE_ANY, which the record keeps as it is:

@@ -1,10 +1,10 @@
 -- The laws of the machine record: its page counts, its tests, and that it goes by its own bytes.
 -- Assumes nothing.
-use Prim.Native.Nat.{ℕ, zero, suc, _+_, _*_, _≤_, _<_}
+use Prim.Native.Nat.{ℕ, _+_, _*_, _≤_, _<_}
 use mathlib.Core.Path.{_≡_, refl, ap, ap₂, _∙_, sym}
 use mathlib.Core.Bool.{Bool, true, false, _&&_, cond, false≢true}
 use mathlib.Core.List.{List, [], _∷_, _++_, map}
-use native.Mathlib.Nat.{add-zero, zero-add, mul-le-mul}
+use native.Mathlib.Nat.{zero-add, mul-le-mul}
 use native.Mathlib.Numerals.{add-one}
 use native.Mathlib.Omega.{arith}
 use borrow.Author.Tests.{leb-true}
@@ -17,7 +17,7 @@ use Rattle.rules.specs.Decisions.{unless, accept}
 use Rattle.rules.specs.Journal.{byteAt, number, marked, headSize, headOk, countsOk, machineSize, machineIn, journalPages, opening}
 use Rattle.journal.specs.Opening.{openingSize}
 use Rattle.journal.proofs.Numbers.{long-take, part-take, number-take}
-use Rattle.rules.proofs.Lists.{both-true}
+use Rattle.rules.proofs.Lists.{both-true, map-from-suc, map-from-same}
 use Rattle.rules.proofs.Decisions.{passed}
 
 -- "the six head bytes": a head that is undamaged has them
@@ -41,13 +41,6 @@ nodes-most bs h = leb-true (byteAt bs 3) 16 (both-true {a = leb 1 (byteAt bs 3)}
 -- N x N distances are few
 pub square-most : (n : ℕ) → n < 256 → n * n ≤ 65025
 square-most n h = mul-le-mul {n₂ = 255} {m₂ = 255} (omega arith) (omega arith)
-
--- the values at one number more
-map-from-suc : (f : ℕ → ℕ) (a k : ℕ) → map f (from a (suc k)) ≡ map f (from a k) ++ (f (a + k) ∷ [])
-unfolding from
-map-from-suc f a zero = ap (λ (x : ℕ). f x ∷ []) (sym (add-zero a))
-map-from-suc f a (suc k) =
-    ap (λ (l : List ℕ). f a ∷ l) (map-from-suc f (suc a) k ∙ ap (λ (j : ℕ). map f (from (suc a) k) ++ (f j ∷ [])) (omega arith))
 
 -- "N 16-bit page counts": count i
 abbrev pub countAt : List ℕ → ℕ → ℕ
@@ -114,12 +107,6 @@ size-most bs h =
     let cpus : byteAt bs 4 ≤ 64 = leb-true (byteAt bs 4) 64 (both-true {a = leb 1 (byteAt bs 4)} (both-true {a = between 1 16 n} h .1) .1) in
     let square : n * n ≤ 256 = mul-le-mul {n₂ = 16} {m₂ = 16} few few in
     omega arith
-
--- values that are the same at each number
-map-from-same : (f g : ℕ → ℕ) (a k : ℕ) → ((i : ℕ) → i < a + k → f i ≡ g i) → map f (from a k) ≡ map g (from a k)
-unfolding from
-map-from-same f g a zero h = refl
-map-from-same f g a (suc k) h = ap₂ (λ (x : ℕ) (xs : List ℕ). x ∷ xs) (h a (omega arith)) (map-from-same f g (suc a) k (λ i l. h i (omega arith)))
 
 module _ (w : ℕ) (bs : List ℕ) (six : headSize ≤ w) where
   byte-alone : (i : ℕ) → i < headSize → byteAt (take w bs) i ≡ byteAt bs i

@@ -3,7 +3,7 @@
 use Prim.Native.Nat.{ℕ, zero, suc, _+_, _-_, _≤_, _<_}
 use mathlib.Core.Path.{_≡_, refl, sym, ap, ap₂, _∙_}
 use mathlib.Core.Logic.{_≢_}
-use mathlib.Core.Bool.{Bool, true, false, not, _&&_, _||_, or-false, or-assoc, or-comm}
+use mathlib.Core.Bool.{Bool, true, false, not, _&&_, _||_, or-false, or-comm}
 use mathlib.Core.List.{List, [], _∷_, _++_}
 use native.Mathlib.Decide.{ℕ-discrete}
 use native.Mathlib.Omega.{arith}
@@ -15,16 +15,10 @@ use lib.Pow.{pow-pos}
 use Rattle.rules.specs.Basics.{all, any}
 use Rattle.rules.specs.Maps.{isIn, different, setOf}
 use Rattle.rules.specs.Masks.{mostNodes, bit, has, either, rank, insert}
-use Rattle.rules.proofs.Lists.{same-test, both-true}
+use Rattle.rules.proofs.Lists.{same-test, both-true, any-append}
 use Rattle.rules.proofs.Masks.{bit-lt, bit-none, either-has, maskOf-same, rank-step, rank-le, none-in, has-insert}
 use Rattle.rules.proofs.Masks.{has-insert-other, insert-lt, size-insert, maskOf-lt, has-maskOf, maskOf-is}
 use Rattle.machine.proofs.Tables.{parts-all}
-
--- some one of two lists passes: one of the first or one of the second
-any-append : {A : Type 0} (p : A → Bool) (xs ys : List A) → any p (xs ++ ys) ≡ (any p xs || any p ys)
-unfolding any
-any-append p [] ys = refl
-any-append p (x ∷ xs) ys = rw (any-append p xs ys) (sym (or-assoc (p x) (any p xs) (any p ys)))
 
 -- the set of no nodes
 pub set-none : 0 ≡ setOf []
@@ -37,7 +31,7 @@ empty-size zero = omega (arith, rank-le 0 0)
 empty-size (suc w) = omega (arith, rank-step 0 w, empty-size w, bit-none w)
 
 -- the set of some nodes has those below 64
-set-has : (ks : List ℕ) (b : ℕ) → b < mostNodes → has (setOf ks) b ≡ isIn ks b
+pub set-has : (ks : List ℕ) (b : ℕ) → b < mostNodes → has (setOf ks) b ≡ isIn ks b
 unfolding setOf
 set-has ks b l = has-maskOf mostNodes (isIn ks) b l
 
@@ -57,6 +51,13 @@ unfolding any
 set-more ks b h =
     set-with ks (ks ++ (b ∷ [])) b h
     (λ n. any-append (eqb n) ks (b ∷ []) ∙ ap (λ (t : Bool). isIn ks n || t) (or-false (eqb n b)) ∙ or-comm (isIn ks n) (eqb n b))
+
+-- a byte that is no node's number adds none
+pub set-past : (ks : List ℕ) (b : ℕ) → mostNodes ≤ b → setOf ks ≡ setOf (ks ++ (b ∷ []))
+unfolding setOf any
+set-past ks b h =
+    maskOf-same mostNodes (isIn ks) (isIn (ks ++ (b ∷ [])))
+    (λ n l. sym (any-append (eqb n) ks (b ∷ []) ∙ rw (ne-eqb n b (λ q. omega arith)) (or-false (isIn ks n))))
 
 -- the set of two lists
 pub set-either : (xs ys : List ℕ) → either (setOf xs) (setOf ys) ≡ setOf (xs ++ ys)

@@ -1,15 +1,16 @@
--- The picker's answer on a node's part of the page table, told of the whole table: the law that a caller of the picker needs.
+-- The picker's answer on a node's part of the page table, told of the whole table: the laws that its callers need.
 -- Assumes nothing.
 use Prim.Native.Nat.{ℕ, zero, suc, _+_, _-_, _≤_, _<_}
 use mathlib.Core.Path.{_≡_, refl, ap, sym, _∙_}
-use mathlib.Core.Bool.{Bool, true, false, cond}
+use mathlib.Core.Bool.{Bool, true, false, not, cond}
 use mathlib.Core.List.{List, [], _∷_, _++_, map}
+use mathlib.Core.Option.{none, some}
 use native.Mathlib.Nat.{add-zero, add-sub-cancel-left}
 use native.Mathlib.Omega.{arith}
 use lib.Dec.{eqb}
 use lib.ListN.{length, getD, take, drop, length-take, length-drop}
 use lib.Seq.{getD-take, getD-drop}
-use Rattle.rules.specs.Basics.{keep, first, from}
+use Rattle.rules.specs.Basics.{keep, first, isNil, from}
 use Rattle.pages.specs.FirstZero.{shift}
 use Rattle.pages.specs.Colours.{isFree, isOf, freeFrom, freeOf, pickOf}
 
@@ -64,3 +65,26 @@ pick-part c ledger a k l =
     let free = freeFrom 0 (take k (drop a ledger)) in
     rw (free-moved ledger a k l, moved-keep (λ p. isOf c (p - a)) (isOf c) a free (λ i. ap (isOf c) (add-sub-cancel-left a i)))
     (first-moved a (keep (isOf c) free) free)
+
+-- ---- is there a free page?
+
+-- a first free page, and none
+pub some-free : (xs : List ℕ) {i : ℕ} → first xs ≡ some i → true ≡ not (isNil xs)
+unfolding first isNil
+some-free [] e = absurd (let z : _≡_ {A = ℕ} 0 1 = cc in omega arith)
+some-free (x ∷ xs) e = refl
+
+pub none-free : (xs : List ℕ) → first xs ≡ none → false ≡ not (isNil xs)
+unfolding first isNil
+none-free [] e = refl
+none-free (x ∷ xs) e = absurd (let z : _≡_ {A = ℕ} 0 1 = cc in omega arith)
+
+-- of the k pages from a on: some one is free exactly where one of the part is
+pub free-part : (ledger : List ℕ) (a k : ℕ) → a + k ≤ length ledger
+    → isNil (freeFrom 0 (take k (drop a ledger))) ≡ isNil (keep (λ p. eqb (getD ledger p 1) 0) (from a k))
+unfolding isNil
+free-part ledger a k l = rw (free-moved ledger a k l) (go (freeFrom 0 (take k (drop a ledger))))
+  where
+    go : (xs : List ℕ) → isNil xs ≡ isNil (map (λ i. a + i) xs)
+    go [] = refl
+    go (x ∷ xs) = refl

@@ -2,13 +2,13 @@
 // marked.
 
 ghost use mathlib.Core.Path.{_≡_};
-ghost use mathlib.Core.Bool.{false, cond};
+ghost use mathlib.Core.Bool.{false, not, cond};
 ghost use Prim.Native.Nat.{ℕ, _+_, _^_, _%_, _≤_, _<_};
 ghost use lib.Dec.{eqb};
 ghost use lib.ListN.{length, getD, drop};
-ghost use Rattle.rules.specs.Basics.{first};
+ghost use Rattle.rules.specs.Basics.{first, isNil};
 ghost use Rattle.pages.specs.FirstZero.{offsetOf, shift, firstZero, mark, hasZero, zeroOrEnd};
-ghost use Rattle.pages.specs.Colours.{isFree, freeOf, pickOf, HeldBefore, Clears, HeldUnder};
+ghost use Rattle.pages.specs.Colours.{isFree, freeFrom, freeOf, pickOf, HeldBefore, Clears, HeldUnder};
 use rules::Page;
 use rules::lower;
 
@@ -128,6 +128,17 @@ fn first_free(part: &[u8], from: usize) -> Found
         i = end;
     }
     Found::Full
+}
+
+// Has the part a free page?
+pub fn has_free(part: &[u8]) -> bool
+    ensures { λ r. ⌜ r ≡ not (isNil (freeFrom 0 (now (part .entry)))) ⌝ }
+{
+    let found = first_free(part, 0);
+    match found {
+        Found::At(_) => true,
+        Found::Full => false,
+    }
 }
 
 // The lowest free page, given the lowest from an index on.

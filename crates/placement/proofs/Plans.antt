@@ -2,37 +2,30 @@
 -- Assumes nothing.
 use Prim.Native.Nat.{ℕ, zero, suc, _+_, _^_, _≤_, _<_}
 use mathlib.Core.Path.{_≡_, refl, sym, ap, _∙_}
-use mathlib.Core.Bool.{Bool, true, false, not, _&&_, cond, false≢true, and-false}
+use mathlib.Core.Bool.{Bool, true, false, _&&_, cond, and-false}
 use mathlib.Core.List.{List, [], _∷_, map, List·Memᴰ·head, List·Memᴰ·tail}
-use mathlib.Core.Option.{none, some}
-use native.Mathlib.Nat.{mod-eq-of-lt, lt-of-lt-of-le, lt-of-le-of-lt}
+use mathlib.Core.Option.{some}
+use native.Mathlib.Nat.{mod-eq-of-lt, lt-of-lt-of-le}
 use native.Mathlib.Omega.{arith}
-use native.Mathlib.Decide.{ℕ-discrete}
-use borrow.Author.Tests.{eqb-true, eqb-false, eq-eqb, ne-eqb}
-use lib.Bits.{and-le-r}
+use borrow.Author.Tests.{eqb-true, eqb-false, ne-eqb}
 use lib.Dec.{eqb}
 use lib.ListN.{length, getD, take, drop}
 use lib.Pow.{pow-mono}
 use lib.Seq.{getD-take, drop-cons}
 use Rattle.rules.specs.Basics.{around}
-use Rattle.rules.specs.Masks.{mostNodes, bit, has, isEmpty, below, within, both, lowest, folded}
-use Rattle.rules.specs.Records.{Record, Turn, default, preferred, bind, interleave, Flag, plain, static, relative, unknownFlag, aMask, aList}
+use Rattle.rules.specs.Masks.{mostNodes, bit, has, isEmpty, both, lowest}
+use Rattle.rules.specs.Records.{Record, Turn, default, preferred, bind, interleave, aMask, aList}
 use Rattle.rules.specs.Records.{carries, modeOf, flagOf, lastIs, noMasks, effectiveFits, masksFit, dataFits, placesOf}
 use Rattle.rules.specs.SearchOrder.{try, nearest, nodeAt, ringPlaces, ringTries, target, interleaved, planIn, modeInForce, plan}
 use Rattle.rules.proofs.Lists.{_∈_, both-true, first-keep, around-below}
-use Rattle.rules.proofs.Masks.{folded-pos, below-width}
+use Rattle.rules.proofs.Masks.{below-width}
 use Rattle.rules.proofs.Turns.{turn-none}
-use Rattle.rules.proofs.Target.{target-none}
-use Rattle.rules.proofs.WellFormed.{Formed, effective-within, some-allowed, list-in-force}
+use Rattle.rules.proofs.WellFormed.{Formed, effective-some, list-in-force}
 use Rattle.nodemask.proofs.RankLaws.{lowest-is}
 use Rattle.records.specs.Jobs.{turnOf}
 use Rattle.placement.specs.Plans.{walkWith, leaves, earlyTries, roundTries, walkTries}
 
 -- ---- nodes of the effective mask
-
--- "effective .. within allowed": below N
-pub effective-lt : (n : ℕ) (r : Record) → n ≤ mostNodes → Formed n r → r .effective < 2 ^ n
-effective-lt n r l h = lt-of-le-of-lt (rw (effective-within n r l h) at (and-le-r (r .effective) (r .allowed))) (h .allowed-below)
 
 -- the lowest node of a mask below N
 pub lowest-below : (n e : ℕ) → n ≤ mostNodes → 0 < e → e < 2 ^ n → lowest mostNodes e < n
@@ -48,23 +41,7 @@ pub some-target : (e c : ℕ) {t : ℕ} → target e c ≡ some t → e ≡ 0 �
 unfolding target
 some-target e c q z = let s = rw z at q in let n = turn-none mostNodes c in let y : _≡_ {A = ℕ} 0 1 = cc in omega arith
 
--- and only an empty one has none
-pub no-target : (n e c : ℕ) → n ≤ mostNodes → e < 2 ^ n → c ≤ n → target e c ≡ none → e ≡ 0
-no-target n e c few l k q = go (ℕ-discrete e 0)
-  where
-    go : Dec (e ≡ 0) → e ≡ 0
-    go (yes z) = z
-    go (no d) =
-        let low = lowest-is mostNodes e (omega arith) (lt-of-lt-of-le l (pow-mono few)) in
-        absurd (false≢true (sym (target-none e c (omega arith) .0 q (lowest mostNodes e) (low .small)) ∙ eq-eqb _ 1 (low .member)))
-
 -- ---- the mode in force
-
-flag-static : (f : ℕ) → flagOf f ≡ static → f ≡ 1
-flag-static zero e = absurd (let z : _≡_ {A = ℕ} 0 1 = cc in omega arith)
-flag-static (suc zero) e = refl
-flag-static (suc (suc zero)) e = absurd (let z : _≡_ {A = ℕ} 0 1 = cc in omega arith)
-flag-static (suc (suc (suc f))) e = absurd (let z : _≡_ {A = ℕ} 0 1 = cc in omega arith)
 
 module _ (n limit : ℕ) (r : Record) (x : ℕ) where
   -- "Default .. near(CPU's node)"
@@ -105,19 +82,12 @@ module _ (n limit : ℕ) (r : Record) (x : ℕ) where
 
     -- "and any mode with static and an empty effective set": then near(CPU's node), as with preferred and an empty user mask
     pub none-effective : r .user < 2 ^ mostNodes → r .effective ≡ 0 → plan limit r x ≡ nearest limit x (r .turn)
-    unfolding plan modeInForce planIn masksFit noMasks effectiveFits
+    unfolding plan modeInForce planIn masksFit noMasks
     none-effective word z = go (isEmpty (r .user)) refl masks-fit
       where
-        by-flag : (f : Flag) → flagOf (r .flag) ≡ f → 0 < r .user → effectiveFits n r f ≡ true → plan limit r x ≡ nearest limit x (r .turn)
-        by-flag plain e p t =
-            let q = both-true {a = below n (r .user) && not (isEmpty (r .effective))} {b = within (r .effective) (r .allowed)} t .0 in
-            absurd (false≢true (rw z at (both-true {a = below n (r .user)} {b = not (isEmpty (r .effective))} q .1)))
-        by-flag static e p t = rw (flag-static (r .flag) e, z)
-        by-flag relative e p t =
-            let q : r .effective ≡ folded mostNodes (r .user) (r .allowed) = eqb-true (r .effective) (folded mostNodes (r .user) (r .allowed)) t in
-            let low : r .allowed < 2 ^ mostNodes = lt-of-lt-of-le (h .allowed-below) (pow-mono few) in
-            absurd (omega (arith, folded-pos mostNodes (r .user) (r .allowed) (some-allowed n r h c) low p word))
-        by-flag unknownFlag e p t = absurd (false≢true t)
+        with-user : 0 < r .user → (b : Bool) → (eqb (r .flag) 1 && isEmpty (r .effective)) ≡ b → plan limit r x ≡ nearest limit x (r .turn)
+        with-user p true e = rw e refl
+        with-user p false e = absurd (omega (arith, effective-some n r few h c word p e))
 
         go : (b : Bool) → isEmpty (r .user) ≡ b → cond b (eqb (r .mode) 1 && noMasks r) (effectiveFits n r (flagOf (r .flag))) ≡ true
             → plan limit r x ≡ nearest limit x (r .turn)
@@ -126,7 +96,7 @@ module _ (n limit : ℕ) (r : Record) (x : ℕ) where
             let f = both-true {a = eqb (r .flag) 0 && isEmpty (r .user)} {b = isEmpty (r .effective)} (q .1) .0 in
             let flag : r .flag ≡ 0 = eqb-true (r .flag) 0 (both-true {a = eqb (r .flag) 0} {b = isEmpty (r .user)} f .0) in
             rw (flag, eqb-true (r .mode) 1 (q .0), eqb-true (r .user) 0 e)
-        go false e t = by-flag (flagOf (r .flag)) refl (omega (arith, eqb-false (r .user) 0 e)) t
+        go false e t = with-user (omega (arith, eqb-false (r .user) 0 e)) _ refl
 
     -- a record with an effective set has a user mask
     pub some-user : (r .effective ≡ 0 → ⊥) → isEmpty (r .user) ≡ false

@@ -9,12 +9,12 @@ use native.Mathlib.Omega.{arith}
 use borrow.Author.Tests.{ltb-true}
 use lib.Bits.{and-le-l}
 use lib.ListN.{length}
-use Rattle.rules.specs.Machine.{Machine, nodeCount, nodesOk, pagesOk, cpusOk, distancesOk, machineOk, pageTableOk, nodeOfCpu}
+use Rattle.rules.specs.Machine.{Machine, nodeCount, nodesOk, pagesOk, cpusOk, distancesOk, machineOk, nodeOfCpu}
 use Rattle.rules.specs.Records.{Record, recordAt}
 use Rattle.rules.specs.Maps.{mapSize, mapBytes, goodMap, setOf}
 use Rattle.rules.specs.SearchOrder.{plan, order, chosen}
 use Rattle.rules.specs.Decisions.{Decision, refuse, accept}
-use Rattle.rules.specs.Calls.{refused, Tables, Change, Outcome, outcome, applied, mapOf, isJob, isMapped, freeOk, jobsOk, requestTablesOk, releaseTablesOk}
+use Rattle.rules.specs.Calls.{refused, Tables, Change, Outcome, outcome, applied, mapOf, isJob, isMapped, requestTablesOk, releaseTablesOk}
 use Rattle.rules.specs.Calls.{admitted, limitOf, orderOf, serve, requestDecision, releaseDecision, onRequest, onRelease}
 use Rattle.rules.proofs.Admission.{Passes, admitted-passes, passes-admitted, accepted}
 use Rattle.rules.proofs.Calls.{releases}
@@ -29,20 +29,12 @@ use Rattle.placement.specs.Hints.{Hints}
 use Rattle.placement.specs.Placed.{placedAs, HasMap}
 use Rattle.placement.specs.declared.placed.Placed.{Placed}
 use Rattle.placement.specs.declared.placed.Placed.the-variants.{Granted, Released, Refused}
-use Rattle.rules.proofs.InOrder.{release-ok, fresh-ok, jobs-ok, job-map, pages-in-order}
+use Rattle.rules.proofs.InOrder.{machine-ok, release-ok, fresh-ok, jobs-ok, job-map, pages-in-order}
 use Rattle.placement.proofs.InOrder.{ready}
 
 table-ok : (m : Machine) → machineOk m ≡ true → distancesOk (nodeCount m) (m .distances) ≡ true
 unfolding machineOk
 table-ok m h = both-true {a = nodesOk (nodeCount m) && pagesOk (m .pageCounts) && cpusOk (nodeCount m) (m .cpuNodes)} h .1
-
-machine-ok : (m : Machine) (t : Tables) → requestTablesOk m t ≡ true → machineOk m ≡ true
-unfolding requestTablesOk
-machine-ok m t h =
-    let pages = pageTableOk (m .pageCounts) (length (t .ledger)) in
-    let a = both-true {a = machineOk m && pages && jobsOk (length (t .records)) (length (t .maps))} {b = freeOk (nodeCount m) (length (t .free))} h in
-    let b = both-true {a = machineOk m && pages} {b = jobsOk (length (t .records)) (length (t .maps))} (a .0) in
-    both-true {a = machineOk m} {b = pages} (b .0) .0
 
 -- what is answered by a refusal is one
 refused-map : (nodes : List ℕ) (bytes j : ℕ) {q : ℕ} (r : Placed) → placedAs nodes r ≡ refused q → HasMap bytes j r

@@ -1,4 +1,4 @@
--- Each example of the eight tables is right. (Files are checked by name, and what they use first: so a rule that breaks an example is refused
+-- Each example of the nine tables is right. (Files are checked by name, and what they use first: so a rule that breaks an example is refused
 -- at the table, which computes, before any proof.)
 -- Assumes nothing.
 use mathlib.Core.Path.{_≡_, refl}
@@ -13,6 +13,7 @@ use Rattle.rules.specs.MapExamples as maps
 use Rattle.rules.specs.ClosingExamples as closing
 use Rattle.rules.specs.NoteExamples as notes
 use Rattle.rules.specs.ColourExamples as colours
+use Rattle.rules.specs.ReasonExamples as reasons
 use Rattle.rules.proofs.Lists.{_∈_, all-true}
 
 -- a computed test that holds
@@ -51,3 +52,7 @@ notes-right h = all-true notes.right (is-true _ notes.all-right) h
 -- M-105 by examples: 01's pages for jobs 1, 2, 3 and 5, and nodes of more than four pages
 pub colours-right : {e : colours.Example} → e ∈ (colours.onA ++ colours.onWide) → colours.right e ≡ true
 colours-right h = all-true colours.right (is-true _ colours.all-right) h
+
+-- M-106 by examples: modes 0 to 3, modes 4 to 6, counts that do not match, refusals
+pub reasons-right : {e : reasons.Example} → e ∈ (reasons.byNear ++ reasons.byPlaces ++ reasons.byCounts ++ reasons.refusals) → reasons.right e ≡ true
+reasons-right h = all-true reasons.right (is-true _ reasons.all-right) h

@@ -240,7 +240,7 @@ fresh-matches m t ok = rw (fresh-is (m .pageCounts) t ok) (sym (all-free (m .pag
 
 module _ (m : Machine) (t : Tables) (a : Matches (m .pageCounts) t) where
   -- a node is counted above 0 exactly if it has a free page
-  counted-as : (n : ℕ) → counted (t .free) n ≡ hasRoom (m .pageCounts) (t .ledger) n
+  pub counted-as : (n : ℕ) → counted (t .free) n ≡ hasRoom (m .pageCounts) (t .ledger) n
   counted-as n = ap (λ (f : List ℕ). counted f n) a ∙ counted-room (m .pageCounts) (t .ledger) n
 
   -- "8 no node in the order has a free page", "Given exactly when", "Order: request 1, 2, 3, 4, 8": a request is refused 8 exactly when it

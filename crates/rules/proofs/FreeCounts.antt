@@ -16,20 +16,13 @@ use Rattle.rules.specs.Machine.{firstPage, pagesOf}
 use Rattle.rules.specs.SearchOrder.{Try, freePages, hasRoom, counted, chosen}
 use Rattle.rules.specs.Calls.{write, afterWrites}
 use Rattle.rules.specs.FreeCounts.{freeCounts, firstWithRoom}
-use Rattle.rules.proofs.Lists.{keep-same, length-from}
+use Rattle.rules.proofs.Lists.{keep-same, length-from, entry-map-from}
 use Rattle.rules.proofs.Admission.{isFree}
 use Rattle.rules.proofs.Pages.{PageOf, page-lt, page-node, page-node-lt}
 
 -- ---- tables that are made node by node
 
--- entry i of the list f a, f (a + 1), ..
-entry-from : (f : ℕ → ℕ) (a k i : ℕ) → i < k → getD (map f (from a k)) i 0 ≡ f (a + i)
-unfolding from
-entry-from f a zero i h = absurd (omega arith)
-entry-from f a (suc k) zero h = ap f (omega arith)
-entry-from f a (suc k) (suc i) h = entry-from f (suc a) k i (omega arith) ∙ ap f (omega arith)
-
--- there is none past its end
+-- there is none past the end of the list f a, f (a + 1), ..
 entry-past : (f : ℕ → ℕ) (a k i : ℕ) → k ≤ i → getD (map f (from a k)) i 0 ≡ 0
 unfolding from
 entry-past f a zero i h = refl
@@ -58,7 +51,7 @@ unfolding freeCounts freePages pagesOf
 count-is counts ledger n = go (decLe (suc n) (length counts))
   where
     go : Dec (suc n ≤ length counts) → getD (freeCounts counts ledger) n 0 ≡ freeCount counts ledger n
-    go (yes l) = entry-from (freeCount counts ledger) 0 (length counts) n l ∙ ap (freeCount counts ledger) (omega arith)
+    go (yes l) = entry-map-from (freeCount counts ledger) 0 (length counts) n l ∙ ap (freeCount counts ledger) (omega arith)
     go (no l) = entry-past (freeCount counts ledger) 0 (length counts) n (omega arith) ∙ sym (none-there (past-end counts n (omega arith)))
       where
         none-there : getD counts n 0 ≡ 0 → freeCount counts ledger n ≡ 0
@@ -98,7 +91,7 @@ module _ (P Q : ℕ → Bool) (p : ℕ) (same : (q : ℕ) → q ≢ p → P q �
   as-many a (suc k) h = rw (same a (h a (omega arith) (omega arith)), as-many (suc a) k (λ q l m. h q (omega arith) (omega arith)))
 
   -- and one passes one more of those with p
-  one-more : (a k : ℕ) → a ≤ p → p < a + k → P p ≡ true → Q p ≡ false → count P (from a k) ≡ suc (count Q (from a k))
+  pub one-more : (a k : ℕ) → a ≤ p → p < a + k → P p ≡ true → Q p ≡ false → count P (from a k) ≡ suc (count Q (from a k))
   unfolding count from
   one-more a zero l m t f = absurd (omega arith)
   one-more a (suc k) l m t f = go (ℕ-discrete a p) (λ s. one-more (suc a) k s (omega arith) t f)

@@ -53,6 +53,15 @@ record-tests true true false f w h = absurd (false≢true h)
 record-tests true true true false w h = absurd (false≢true h)
 record-tests true true true true w h = h
 
+-- where the tables of a request are in order, the machine is
+pub machine-ok : (m : Machine) (t : Tables) → requestTablesOk m t ≡ true → machineOk m ≡ true
+unfolding requestTablesOk
+machine-ok m t h =
+    let pages = pageTableOk (m .pageCounts) (length (t .ledger)) in
+    let jobs = jobsOk (length (t .records)) (length (t .maps)) in
+    let a = both-true {a = machineOk m && pages && jobs} {b = freeOk (nodeCount m) (length (t .free))} h in
+    both-true {a = machineOk m} {b = pages} (both-true {a = machineOk m && pages} {b = jobs} (a .0) .0) .0
+
 -- tables that are in order for a request are so for a release
 pub release-ok : (m : Machine) (t : Tables) → requestTablesOk m t ≡ true → releaseTablesOk (m .pageCounts) t ≡ true
 unfolding requestTablesOk releaseTablesOk freshTablesOk machineOk

@@ -26,3 +26,8 @@ pub mod Mapped
 pub mod Unmapped
 pub mod Unclosed
 pub mod Uncoloured
+pub mod ReasonsOf
+pub mod ReasonsPlan
+pub mod Reasons
+pub mod ReasonsRoom
+pub mod ReasonsCall

@@ -4,6 +4,7 @@ use Prim.Native.Nat.{suc-le-suc, ℕ, zero, suc, _+_, _-_, _%_, _≤_, _<_}
 use mathlib.Core.Path.{_≡_, refl, sym, ap, ap₂, subst, _∙_}
 use mathlib.Core.Logic.{_↔_, _⊎_, inl, inr, ⊎-elim}
 use mathlib.Core.Bool.{Bool, true, false, not, _&&_, _||_, cond, true≢false, false≢true, and-eq-true-iff, or-true, and-assoc, and-true}
+use mathlib.Core.Bool.{or-assoc}
 use mathlib.Mathlib.Data.Bool.Basic.{eq-false-of-not-eq-true}
 use mathlib.Core.Option.{none, some}
 use mathlib.Core.List.{List, [], _∷_, _++_, map, append-assoc, append-nil, List·Memᴰ, List·Memᴰ·head, List·Memᴰ·tail, List·Memᴰ·not-nil}
@@ -14,7 +15,7 @@ use native.Mathlib.Omega.{arith}
 use lib.ListN.{length, getD, take, drop, take-append-drop}
 use lib.Dec.{leb}
 use borrow.Author.Tests.{leb-true, le-leb}
-use Rattle.rules.specs.Basics.{all, allAt, any, keep, first, firstOr, lastOr, butLast, isNil, each, from, around, sum, between}
+use Rattle.rules.specs.Basics.{all, allAt, any, keep, first, firstOr, lastOr, butLast, isNil, count, each, from, around, sum, between}
 
 -- ---- tests
 
@@ -157,6 +158,12 @@ module _ {A : Type 0} where
   none-any p [] h = refl
   none-any p (y ∷ ys) h = rw (h y (List·Memᴰ·head refl)) (none-any p ys (λ x m. h x (List·Memᴰ·tail m)))
 
+  -- of two lists end to end some one passes if some one of either does
+  pub any-append : (p : A → Bool) (xs ys : List A) → any p (xs ++ ys) ≡ (any p xs || any p ys)
+  unfolding any
+  any-append p [] ys = refl
+  any-append p (x ∷ xs) ys = rw (any-append p xs ys) (sym (or-assoc (p x) (any p xs) (any p ys)))
+
   -- every one passes: each one of the list does
   pub all-true : (p : A → Bool) {xs : List A} {x : A} → all p xs ≡ true → x ∈ xs → p x ≡ true
   unfolding all
@@ -184,6 +191,12 @@ module _ {A : Type 0} where
   unfolding keep
   none-keep p [] h = refl
   none-keep p (y ∷ ys) h = rw (h y (List·Memᴰ·head refl)) (none-keep p ys (λ x m. h x (List·Memᴰ·tail m)))
+
+  -- where none passes, none is counted
+  pub none-count : (p : A → Bool) (xs : List A) → ((x : A) → x ∈ xs → p x ≡ false) → count p xs ≡ 0
+  unfolding count
+  none-count p [] h = refl
+  none-count p (y ∷ ys) h = rw (h y (List·Memᴰ·head refl)) (omega (arith, none-count p ys (λ x m. h x (List·Memᴰ·tail m))))
 
   -- nothing is kept exactly when none passes
   pub empty-keep : (p : A → Bool) (xs : List A) → isNil (keep p xs) ≡ not (any p xs)
@@ -327,6 +340,12 @@ module _ {A B : Type 0} where
   pub map-member : (f : A → B) (xs : List A) {y : B} → y ∈ map f xs → (x : A) × (x ∈ xs) × (y ≡ f x)
   map-member f xs h = let r = Memᴰ·of-map f xs h in (r .0, r .1, sym (r .2))
 
+  -- as many of map f xs pass as there are x of which f x passes
+  pub count-map : (p : B → Bool) (f : A → B) (xs : List A) → count p (map f xs) ≡ count (λ x. p (f x)) xs
+  unfolding count
+  count-map p f [] = refl
+  count-map p f (x ∷ xs) = ap (λ (k : ℕ). cond (p (f x)) 1 0 + k) (count-map p f xs)
+
 -- there are k of a, a + 1, ..
 pub length-from : (a k : ℕ) → length (from a k) ≡ k
 unfolding from
@@ -339,6 +358,13 @@ unfolding from
 entry-from a zero i d h = absurd (omega arith)
 entry-from a (suc k) zero d h = omega arith
 entry-from a (suc k) (suc i) d h = omega (arith, entry-from (suc a) k i d (omega arith))
+
+-- entry i of the list f a, f (a + 1), ..
+pub entry-map-from : (f : ℕ → ℕ) (a k i : ℕ) → i < k → getD (map f (from a k)) i 0 ≡ f (a + i)
+unfolding from
+entry-map-from f a zero i h = absurd (omega arith)
+entry-map-from f a (suc k) zero h = ap f (omega arith)
+entry-map-from f a (suc k) (suc i) h = entry-map-from f (suc a) k i (omega arith) ∙ ap f (omega arith)
 
 -- a number in from a k is from a on below a + k
 pub from-member : (a k : ℕ) {n : ℕ} → n ∈ from a k → (a ≤ n) × (n < a + k)
@@ -375,6 +401,19 @@ each-from-suc f a zero = append-nil (f a) ∙ ap f (sym (add-zero a))
 each-from-suc {A} f a (suc k) =
     ap (λ (l : List A). f a ++ l) (each-from-suc f (suc a) k ∙ ap (λ (j : ℕ). each f (from (suc a) k) ++ f j) (omega arith))
     ∙ sym (append-assoc (f a) (each f (from (suc a) k)) (f (a + suc k)))
+
+-- the values at one number more
+pub map-from-suc : {A : Type 0} (f : ℕ → A) (a k : ℕ) → map f (from a (suc k)) ≡ map f (from a k) ++ (f (a + k) ∷ [])
+unfolding from
+map-from-suc f a zero = ap (λ (x : ℕ). f x ∷ []) (sym (add-zero a))
+map-from-suc {A} f a (suc k) =
+    ap (λ (l : List A). f a ∷ l) (map-from-suc f (suc a) k ∙ ap (λ (j : ℕ). map f (from (suc a) k) ++ (f j ∷ [])) (omega arith))
+
+-- values that are the same at each number
+pub map-from-same : {A : Type 0} (f g : ℕ → A) (a k : ℕ) → ((i : ℕ) → i < a + k → f i ≡ g i) → map f (from a k) ≡ map g (from a k)
+unfolding from
+map-from-same f g a zero h = refl
+map-from-same {A} f g a (suc k) h = ap₂ (λ (x : A) (xs : List A). x ∷ xs) (h a (omega arith)) (map-from-same f g (suc a) k (λ i l. h i (omega arith)))
 
 -- a position in around n c k is that of one of the k numbers from c on
 around-member : (n c k : ℕ) {x : ℕ} → x ∈ around n c k → (i : ℕ) × (i < k) × (x ≡ (c + i) % n)

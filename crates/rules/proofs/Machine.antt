@@ -29,6 +29,15 @@ distance-least n k d h = go (eqb (k / n) (k % n)) h
     go true e = omega (arith, eqb-true d 10 e)
     go false e = leb-true 10 d (both-true e .0)
 
+-- and at most 255
+pub distance-most : (n k d : ℕ) → distanceOk n k d ≡ true → d ≤ 255
+unfolding distanceOk
+distance-most n k d h = go (eqb (k / n) (k % n)) h
+  where
+    go : (b : Bool) → cond b (eqb d 10) (between 10 255 d) ≡ true → d ≤ 255
+    go true e = omega (arith, eqb-true d 10 e)
+    go false e = leb-true d 255 (both-true {a = leb 10 d} e .1)
+
 -- on the diagonal the test asks for 10
 pub distance-own : (n i d : ℕ) → i < n → distanceOk n (i * n + i) d ≡ eqb d 10
 unfolding distanceOk
@@ -60,6 +69,7 @@ pub record DistancesInOrder (n : ℕ) (distances : List ℕ) : Type 0 where
   pub square : length distances ≡ n * n
   pub own : (x : ℕ) → x < n → getD distances (x * n + x) 0 ≡ 10
   pub least : (k : ℕ) → k < length distances → 10 ≤ getD distances k 0
+  pub most : (k : ℕ) → k < length distances → getD distances k 0 ≤ 255
 
 -- a distance table that passes the test is in order
 pub distances-in-order : (n : ℕ) (distances : List ℕ) → distancesOk n distances ≡ true → DistancesInOrder n distances
@@ -73,6 +83,7 @@ distances-in-order n distances h =
       square = q;
       own = λ x l. eqb-true _ 10 (sym (distance-own n x _ l) ∙ each (x * n + x) (omega (arith, square-in x n x l l)));
       least = λ i l. distance-least n i _ (each i l);
+      most = λ i l. distance-most n i _ (each i l);
     }
 
 -- the numbers of a machine's tables that are in order

@@ -2,7 +2,7 @@
 -- Assumes nothing.
 use mathlib.Core.Path.{_≡_, refl, sym, ap, ap₂, _∙_, subst}
 use mathlib.Core.Logic.{_⊎_, inl, inr, ⊎-elim}
-use mathlib.Core.Bool.{Bool, true, false, not, _&&_, _||_, cond, and-false}
+use mathlib.Core.Bool.{Bool, true, false, not, _&&_, _||_, cond, and-false, and-eq-true-iff}
 use Prim.Native.Nat.{ℕ, zero, suc, _+_, _-_, _*_, _/_, _%_, _^_, _≤_, _<_, zero-le, suc-le-suc, min, max}
 use native.Mathlib.Nat.{eq-zero-or-pos, pos-of-ne-zero, le-refl, le-trans, lt-of-lt-of-le, lt-of-le-of-lt, le-of-suc-le-suc, not-suc-le-zero, zero-lt-suc}
 use native.Mathlib.Nat.{zero-add, add-zero, add-comm, one-mul, zero-mul, mod-lt, mod-eq-of-lt, div-eq-of-lt, mod-one}
@@ -83,11 +83,17 @@ bit-and a b n = omega (arith, and-shr a b n, and-step (a / 2 ^ n) (b / 2 ^ n))
 pub zero-and : (b : ℕ) → bitAnd 0 b ≡ 0
 zero-and b = omega (arith, and-le-l 0 b)
 
+-- and so a node
+pub has-both : (a b n : ℕ) → has (bitAnd a b) n ≡ (has a n && has b n)
+has-both a b n = go (bit-cases a n)
+  where
+    go : (bit a n ≡ 0) ⊎ (bit a n ≡ 1) → has (bitAnd a b) n ≡ (has a n && has b n)
+    go (inl p) = let e : bit (bitAnd a b) n ≡ 0 = omega (arith, bit-and a b n) in rw (e, p) refl
+    go (inr p) = let e : bit (bitAnd a b) n ≡ bit b n = omega (arith, bit-and a b n, bit-lt b n) in rw (e, p) refl
+
 -- a node of `a & b` is one of each
 pub both-has : (a b k : ℕ) → has (bitAnd a b) k ≡ true → (has a k ≡ true) × (has b k ≡ true)
-both-has a b k e =
-    let one : bit (bitAnd a b) k ≡ 1 = eqb-true (bit (bitAnd a b) k) 1 e in
-    (eq-eqb (bit a k) 1 (omega (arith, bit-and a b k, one, bit-lt a k)), eq-eqb (bit b k) 1 (omega (arith, bit-and a b k, one, bit-lt b k)))
+both-has a b k e = and-eq-true-iff (has a k) (has b k) .0 (sym (has-both a b k) ∙ e)
 
 -- a bit of `a | b` is in one of them
 pub bit-or : (a b n : ℕ) → bit (bitOr a b) n ≡ max (bit a n) (bit b n)
@@ -543,6 +549,15 @@ pub maskOf-narrow : {n w : ℕ} (p : ℕ → Bool) → n ≤ w → ((k : ℕ) �
 unfolding maskOf
 maskOf-narrow {n} {w} p l h =
     le-ind (λ (k : ℕ). maskOf k p ≡ maskOf n p) refl (λ k q e. rw (h k q) (add-zero (maskOf k p) ∙ e)) w l
+
+-- the mask of one node more, which passes, and which does not
+pub maskOf-with : (p : ℕ → Bool) (n : ℕ) → p n ≡ true → insert (maskOf n p) n ≡ maskOf (suc n) p
+unfolding maskOf
+maskOf-with p n e = rw (e, bit-above n (maskOf n p) n (maskOf-lt n p) (le-refl n)) (omega arith)
+
+pub maskOf-without : (p : ℕ → Bool) (n : ℕ) → p n ≡ false → maskOf n p ≡ maskOf (suc n) p
+unfolding maskOf
+maskOf-without p n e = rw e (sym (add-zero (maskOf n p)))
 
 -- the nodes below n that are not in the mask of a test are those that do not pass it
 pub maskOf-not : (n : ℕ) (p : ℕ → Bool) → allNodes n - maskOf n p ≡ maskOf n (λ k. not (p k))

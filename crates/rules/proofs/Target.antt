@@ -1,15 +1,20 @@
 -- Interleave's target in document 01's own words.
 -- Assumes nothing.
-use Prim.Native.Nat.{ℕ, _≤_, _<_, zero-le}
+use Prim.Native.Nat.{ℕ, _^_, _≤_, _<_, zero-le}
 use mathlib.Core.Path.{_≡_, sym, _∙_}
 use mathlib.Core.Logic.{_↔_, _⊎_, inl, inr, ⊎-elim}
-use mathlib.Core.Bool.{true, false}
+use mathlib.Core.Bool.{true, false, false≢true}
 use mathlib.Core.Option.{none, some, orElse}
 use mathlib.Mathlib.Data.Option.Basic.{orElse-eq-some, orElse-eq-none}
+use native.Mathlib.Nat.{lt-of-lt-of-le}
+use native.Mathlib.Decide.{ℕ-discrete}
 use native.Mathlib.Omega.{arith}
-use Rattle.rules.specs.Masks.{mostNodes, has}
+use borrow.Author.Tests.{eq-eqb}
+use lib.Pow.{pow-mono}
+use Rattle.rules.specs.Masks.{mostNodes, has, lowest}
 use Rattle.rules.specs.Records.{Record, rowOf, cursorLimit, wellFormed}
 use Rattle.rules.specs.SearchOrder.{target}
+use Rattle.rules.proofs.Masks.{select-is, size-pos}
 use Rattle.rules.proofs.Turns.{lowestFrom, LowestFrom, lowest-from, lowest-none, turn-lowest}
 use Rattle.rules.proofs.WellFormed.{formed}
 
@@ -42,3 +47,13 @@ module _ (effective cursor : ℕ) (h : cursor ≤ mostNodes) where
 pub cursor-in-mask : (n : ℕ) (r : Record) → n ≤ mostNodes → wellFormed n r ≡ true → r .mode ≡ 3 → r .turn .cursor ≤ mostNodes
 unfolding cursorLimit rowOf
 cursor-in-mask n r few w three = let l : r .turn .cursor ≤ n = rw three at (formed n r w .cursor-within) in omega arith
+
+-- of a mask below N that is not empty there is a target
+pub no-target : (n e c : ℕ) → n ≤ mostNodes → e < 2 ^ n → c ≤ n → target e c ≡ none → e ≡ 0
+no-target n e c few l k q = go (ℕ-discrete e 0)
+  where
+    go : Dec (e ≡ 0) → e ≡ 0
+    go (yes z) = z
+    go (no d) =
+        let low = select-is mostNodes e 0 (size-pos mostNodes e (omega arith) (lt-of-lt-of-le l (pow-mono few))) in
+        absurd (false≢true (sym (target-none e c (omega arith) .0 q (lowest mostNodes e) (low .small)) ∙ eq-eqb _ 1 (low .member)))

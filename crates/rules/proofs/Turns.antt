@@ -1,13 +1,14 @@
 -- The turn of interleave: the first node of a mask from a number on, once round, over the number of bits.
 -- Assumes nothing.
 use Prim.Native.Nat.{ℕ, zero, suc, _+_, _-_, _/_, _%_, _^_, _≤_, _<_}
-use mathlib.Core.Path.{_≡_, refl, sym, ap, ap₂, _∙_}
+use mathlib.Core.Path.{_≡_, refl, sym, ap, ap₂, subst, _∙_}
 use mathlib.Core.Logic.{_↔_}
 use mathlib.Core.Bool.{true, false, false≢true}
 use mathlib.Core.Option.{Option, none, some, orElse}
-use mathlib.Core.List.{List, [], _∷_, _++_}
+use mathlib.Core.List.{List, [], _∷_, _++_, Memᴰ·append-left, Memᴰ·append-right}
 use native.Mathlib.Nat.{add-zero, zero-add, add-suc, suc-add, add-mod-left, mod-eq-of-lt, div-one, le-antisymm, le-of-suc-le-suc, lt-of-not-le}
 use native.Mathlib.Nat.{lt-of-lt-of-le}
+use native.Mathlib.Decide.{decLe}
 use native.Mathlib.Omega.{arith}
 use lib.Count.{trailingZeros}
 use lib.Pow.{pow-mono}
@@ -127,6 +128,14 @@ module _ (w m c : ℕ) (h : c ≤ w) where
       let again = ap (λ (x : ℕ). around w x c) (let e : c + (w - c) ≡ w + 0 = omega arith in e) ∙ around-again w 0 c in
       ap (around w c) (let e : w ≡ (w - c) + c = omega arith in e) ∙ around-append w c (w - c) c
       ∙ ap₂ (λ (xs ys : List ℕ). xs ++ ys) (around-plain w c (w - c) (omega arith)) (again ∙ around-plain w 0 c (omega arith))
+
+  -- so it comes to each number
+  pub all-round : (p : ℕ) → p < w → p ∈ around w c w
+  all-round p l = subst (λ (xs : List ℕ). p ∈ xs) (sym once-round) (go (decLe c p))
+    where
+      go : Dec (c ≤ p) → p ∈ (from c (w - c) ++ from 0 c)
+      go (yes k) = Memᴰ·append-left (from 0 c) (listed w c p k l)
+      go (no k) = Memᴰ·append-right (from c (w - c)) (member-from 0 c p (omega arith) (omega arith))
 
   -- all numbers: from 0 up to c, then from c to the end
   all-in-two : from 0 (w - 0) ≡ from 0 c ++ from c (w - c)

@@ -23,7 +23,8 @@ use Rattle.rules.specs.SearchOrder.{modeInForce}
 use Rattle.rules.specs.Calls.{flagFits, policyKnown, maskFits, policyFits}
 use Rattle.rules.proofs.Bytes.{AreBytes}
 use Rattle.rules.proofs.Lists.{both-true, both-hold, either-true}
-use Rattle.rules.proofs.Masks.{image-out, bit-above, bit-lt, bit-and, bits-within, folded-within, remapped-within, remapped-pos}
+use Rattle.rules.proofs.Masks.{image-out, bit-above, bit-lt, bit-and, bits-within, folded-within, folded-pos}
+use Rattle.rules.proofs.Masks.{remapped-within, remapped-pos}
 use Rattle.rules.proofs.Records.{Storable, decode-encode}
 
 -- ---- tests that passed
@@ -133,6 +134,17 @@ carries-list n r e =
     let l = both-true {a = leb 1 (r .len)} {b = leb (r .len) placesPerJob} (p .1) in
     (z .0, z .1, z .2, leb-true _ _ (l .0), leb-true _ _ (l .1))
 
+-- no mode has more than 16 places
+pub few-listed : (n : ℕ) (r : Record) → Formed n r → r .len ≤ placesPerJob
+unfolding dataFits
+few-listed n r h = go (carries (modeOf (r .mode))) (h .data-fits)
+  where
+    go : (c : Carries) → dataFits n r c ≡ true → r .len ≤ placesPerJob
+    go nothing e = omega (arith, carries-nothing n r e .3)
+    go aMask e = omega (arith, carries-mask n r e)
+    go aList e = carries-list n r e .4
+    go unknown e = absurd (false≢true e)
+
 -- so such a mode is in force
 pub list-in-force : (n : ℕ) (r : Record) → Formed n r → carries (modeOf (r .mode)) ≡ aList → modeInForce r ≡ modeOf (r .mode)
 unfolding modeInForce
@@ -200,6 +212,38 @@ effective-within n r l h = go (carries (modeOf (r .mode))) refl (h .data-fits)
     go aMask c e = by-user (isEmpty (r .user)) c (both-true {a = masksFit n r} {b = eqb (r .len) 0} e .0)
     go aList c e = empty (both-true {a = noMasks r} {b = between 1 placesPerJob (r .len)} e .0)
     go unknown c e = absurd (false≢true e)
+
+-- "effective .. within allowed": below N
+pub effective-lt : (n : ℕ) (r : Record) → n ≤ mostNodes → Formed n r → r .effective < 2 ^ n
+effective-lt n r l h = lt-of-le-of-lt (rw (effective-within n r l h) at (and-le-r (r .effective) (r .allowed))) (h .allowed-below)
+
+-- a mode with masks other than preferred has a user mask
+pub user-some : (n : ℕ) (r : Record) → Formed n r → carries (modeOf (r .mode)) ≡ aMask → (r .mode ≡ 1 → ⊥) → 0 < r .user
+unfolding dataFits masksFit
+user-some n r h c other = go (isEmpty (r .user)) refl (both-true {a = masksFit n r} {b = eqb (r .len) 0} (rw c at (h .data-fits)) .0)
+  where
+    go : (b : Bool) → isEmpty (r .user) ≡ b → cond b (eqb (r .mode) 1 && noMasks r) (effectiveFits n r (flagOf (r .flag))) ≡ true → 0 < r .user
+    go true z t = absurd (other (eqb-true (r .mode) 1 (both-true {a = eqb (r .mode) 1} {b = noMasks r} t .0)))
+    go false z t = some-pos (r .user) (ap not z)
+
+-- with a user mask, of at most 64 bits, the effective mask is not empty, or the record is static
+pub effective-some : (n : ℕ) (r : Record) → n ≤ mostNodes → Formed n r → carries (modeOf (r .mode)) ≡ aMask → r .user < 2 ^ mostNodes → 0 < r .user
+    → (eqb (r .flag) 1 && isEmpty (r .effective)) ≡ false → 0 < r .effective
+unfolding dataFits masksFit effectiveFits
+effective-some n r l h c word p e =
+    let masks = both-true {a = masksFit n r} {b = eqb (r .len) 0} (rw c at (h .data-fits)) .0 in
+    let some-user = ne-eqb (r .user) 0 (λ z. omega arith) in
+    by-flag (r .flag) refl (rw some-user at masks)
+  where
+    by-flag : (f : ℕ) → r .flag ≡ f → effectiveFits n r (flagOf f) ≡ true → 0 < r .effective
+    by-flag zero q t =
+        let a = both-true {a = below n (r .user) && not (isEmpty (r .effective))} {b = within (r .effective) (r .allowed)} t in
+        some-pos (r .effective) (both-true {a = below n (r .user)} {b = not (isEmpty (r .effective))} (a .0) .1)
+    by-flag (suc zero) q t = some-pos (r .effective) (ap not (rw q at e))
+    by-flag (suc (suc zero)) q t =
+        let same : r .effective ≡ folded mostNodes (r .user) (r .allowed) = eqb-true _ _ t in
+        rw same (folded-pos mostNodes (r .user) (r .allowed) (some-allowed n r h c) (word-mask (r .allowed) l (h .allowed-below)) p word)
+    by-flag (suc (suc (suc f))) q t = absurd (false≢true t)
 
 -- ---- rebind
 

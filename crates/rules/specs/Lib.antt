@@ -7,6 +7,7 @@ pub mod SearchOrder
 pub mod Decisions
 pub mod Near
 pub mod Calls
+pub mod Reasons
 pub mod Book
 pub mod FreeCounts
 pub mod Unmapped
@@ -25,3 +26,4 @@ pub mod MapExamples
 pub mod ClosingExamples
 pub mod NoteExamples
 pub mod ColourExamples
+pub mod ReasonExamples

@@ -8,6 +8,7 @@ ghost use Rattle.rules.specs.Calls.{Tables, tablesOf, withRecords, withPages, w
 ghost use Rattle.rules.specs.Journal.{writeJournal};
 ghost use Rattle.rules.specs.Near.{onNear};
 ghost use Rattle.rules.specs.Notes.{namePart, notePlaces, writeNote};
+ghost use Rattle.rules.specs.Reasons.{onReasons};
 ghost use Rattle.rules.specs.Records.{policy};
 ghost use Rattle.rules.specs.Text.{readText, writeText};
 ghost use Rattle.machine.specs.Tables.{machineOf};
@@ -20,6 +21,7 @@ use machine::listing;
 use nodelist;
 use notes;
 use placement;
+use reasons;
 use records;
 use records::mapping;
 use replay;
@@ -192,6 +194,36 @@ pub extern "C" fn spire_near(
     ensures { λ r. ⌜ toldOutput (orderNumbersIn r) (now (out .exit)) ≡ toldListing (onNear nodes (now (distances .entry)) set node (now (out .entry))) ⌝ }
 {
     listing::list_near(nodes, distances, set, node, out).numbers()
+}
+
+// The reason of each node of the machine at a request of a job from a CPU, a byte each at the start of the output, and how many.
+#[no_mangle]
+pub extern "C" fn spire_reasons(
+    counts: &[u32],
+    cpus: &[u8],
+    distances: &[u8],
+    pages: &[u8],
+    jobs: &[u64],
+    free: &[u32],
+    maps: &[u8],
+    job: usize,
+    cpu: usize,
+    out: &mut [u8],
+) -> Number
+    ensures { λ r. ⌜ toldOutput (numberIn r) (now (out .exit)) ≡ toldWritten (onReasons (machineOf (now (counts .entry)) (now (cpus .entry)) (now (distances .entry))) (tablesOf (now (pages .entry)) (now (jobs .entry)) (now (free .entry)) (now (maps .entry))) job cpu (now (out .entry))) ⌝ }
+{
+    reasons::write_reasons(
+        counts,
+        cpus,
+        distances,
+        pages,
+        jobs,
+        free,
+        maps,
+        job,
+        cpu,
+        out,
+    ).number()
 }
 
 // A list of calls, one after the other; their answers go to the output.

@@ -1,7 +1,7 @@
 //! Rents out machine A of document 01 to three tenants, the last with a map of its own and a program that names its memory,
-//! and tells what happens.
+//! and tells what happens; for the support desk also why each node would serve a tenant or not.
 
-use spirerivet::{flag, mode, which, Answer, AppNode, SysNode, JOB_WORDS, MOST_PLACES};
+use spirerivet::{flag, mode, which, Answer, AppNode, Reason, SysNode, JOB_WORDS, MOST_PLACES};
 
 /// The machine: page counts, the node of each CPU, and the distances.
 const COUNTS: [u32; 4] = [2, 2, 0, 2];
@@ -118,6 +118,20 @@ impl House {
         self.tell(&format!("tenant {job} needs a page on CPU {cpu}"), answer);
     }
 
+    /// Why a tenant's next page on a CPU would come from where it would, for the support desk: the machine's numbers.
+    fn explain(&mut self, job: usize, cpu: usize) {
+        let (mut out, House { pages, jobs, free, maps, .. }) = ([0; COUNTS.len()], &self);
+        let words = match spirerivet::reasons(&COUNTS, &CPUS, &DISTANCES, pages, jobs, free, maps, job, cpu, &mut out) {
+            Ok(length) => {
+                let reason = |byte: &u8| Reason::of_number(*byte).map_or("?", Reason::words);
+                let told = out[..length].iter().enumerate().map(|(node, byte)| format!("{node} {}", reason(byte)));
+                told.collect::<Vec<String>>().join(", ")
+            }
+            Err(refusal) => refusal.to_string(),
+        };
+        self.line(&format!("why, for tenant {job} on CPU {cpu}"), &words);
+    }
+
     /// A tenant gives a page back.
     fn give_back(&mut self, job: usize, page: usize) {
         let House { pages, jobs, free, maps, .. } = self;
@@ -142,15 +156,21 @@ fn named_memory(house: &mut House) {
     house.load(note);
     house.go_by(2, note, which::TEXT);
     house.need(2, 0);
+    house.explain(2, 0);
     house.need(2, 0);
     house.go_by(2, note, which::DATA);
     house.go_by(2, &note[..length - 1], which::TEXT);
 }
 
+/// Three tenants that number the nodes as the machine does, and no page yet.
+fn built() -> House {
+    let maps = spirerivet::identity_maps(COUNTS.len(), 3);
+    House { pages: [0; 6], jobs: [0; 3 * JOB_WORDS], free: [0; 4], maps, story: String::new() }
+}
+
 /// The whole story.
 pub fn story() -> String {
-    let maps = spirerivet::identity_maps(COUNTS.len(), 3);
-    let mut house = House { pages: [0; 6], jobs: [0; 3 * JOB_WORDS], free: [0; 4], maps, story: String::new() };
+    let mut house = built();
     house.open();
     house.look(2);
     house.look(4);
@@ -159,8 +179,11 @@ pub fn story() -> String {
     house.need(0, 0);
     house.need(0, 0);
     house.need(0, 0);
+    house.explain(0, 0);
     house.need(1, 4);
+    house.explain(1, 4);
     house.rent(1, "!3");
+    house.explain(1, 4);
     house.need(1, 4);
     house.give_back(0, 4);
     house.give_back(1, 5);
@@ -174,6 +197,7 @@ pub fn story() -> String {
     house.keep(2, AppNode(1));
     house.give_back(2, 3);
     house.need(2, 0);
+    house.explain(2, 0);
     house.give_back(2, 4);
     house.need(2, 0);
     house.leave(2);

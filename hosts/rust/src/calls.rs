@@ -80,6 +80,26 @@ pub fn request(
     answer(ffi::request(counts, cpus, distances, pages, jobs, free, maps, job, cpu), granted)
 }
 
+/// Why a request of the job from the CPU would be served where it would be: writes a byte for each node of the machine, the
+/// number of a `Reason`; gives how many. One node is chosen if the request would be granted, none if it would be refused 8,
+/// which is no refusal here. Each reason is true of the search order if `free` matches the pages. Changes nothing but `out`;
+/// 64 bytes are always enough.
+#[inline]
+pub fn reasons(
+    counts: &[u32],
+    cpus: &[u8],
+    distances: &[u8],
+    pages: &[u8],
+    jobs: &[u64],
+    free: &[u32],
+    maps: &[u8],
+    job: usize,
+    cpu: usize,
+    out: &mut [u8],
+) -> Result<usize, Refusal> {
+    number(ffi::reasons(counts, cpus, distances, pages, jobs, free, maps, job, cpu, out)).map(|nodes| nodes as usize)
+}
+
 /// Gives a page back that the job holds; `free` is kept up. The node is told by the job's own number, if it has one for it.
 #[inline]
 pub fn release(

@@ -46,6 +46,12 @@ extern "C" {
         jobs: *mut u64, jobs_len: usize, free: *mut u32, free_len: usize, maps: *const u8, maps_len: usize,
         job: usize, cpu: usize,
     ) -> HostAnswer;
+    fn spire_reasons(
+        counts: *const u32, counts_len: usize, cpus: *const u8, cpus_len: usize,
+        distances: *const u8, distances_len: usize, pages: *const u8, pages_len: usize,
+        jobs: *const u64, jobs_len: usize, free: *const u32, free_len: usize, maps: *const u8, maps_len: usize,
+        job: usize, cpu: usize, out: *mut u8, out_len: usize,
+    ) -> HostNumber;
     fn spire_release(
         counts: *const u32, counts_len: usize, pages: *mut u8, pages_len: usize,
         jobs: *const u64, jobs_len: usize, free: *mut u32, free_len: usize, maps: *const u8, maps_len: usize,
@@ -104,6 +110,20 @@ pub fn request(
             counts.as_ptr(), counts.len(), cpus.as_ptr(), cpus.len(), distances.as_ptr(), distances.len(),
             pages.as_mut_ptr(), pages.len(), jobs.as_mut_ptr(), jobs.len(), free.as_mut_ptr(), free.len(),
             maps.as_ptr(), maps.len(), job, cpu,
+        )
+    }
+}
+
+#[rustfmt::skip]
+pub fn reasons(
+    counts: &[u32], cpus: &[u8], distances: &[u8], pages: &[u8], jobs: &[u64], free: &[u32], maps: &[u8],
+    job: usize, cpu: usize, out: &mut [u8],
+) -> HostNumber {
+    unsafe {
+        spire_reasons(
+            counts.as_ptr(), counts.len(), cpus.as_ptr(), cpus.len(), distances.as_ptr(), distances.len(),
+            pages.as_ptr(), pages.len(), jobs.as_ptr(), jobs.len(), free.as_ptr(), free.len(),
+            maps.as_ptr(), maps.len(), job, cpu, out.as_mut_ptr(), out.len(),
         )
     }
 }

@@ -12,14 +12,16 @@ mod calls;
 mod ffi;
 mod list;
 mod node;
+mod reason;
 
 pub use answer::{Answer, Order, Refusal};
 pub use calls::{
-    clear, fresh, install, journal, keep_nodes, name, near, note_places, read_nodes, rebind, release, replay, request,
-    set_map, write_nodes, write_note,
+    clear, fresh, install, journal, keep_nodes, name, near, note_places, read_nodes, reasons, rebind, release, replay,
+    request, set_map, write_nodes, write_note,
 };
 pub use list::{answer_of, words_of, Call, CALL_WORDS, MOST_CALL_PLACES};
 pub use node::{identity_maps, AppNode, SysNode, MAP_BYTES, MAP_END};
+pub use reason::Reason;
 
 /// The words of a job in the job table.
 pub const JOB_WORDS: usize = 6;

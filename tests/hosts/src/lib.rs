@@ -9,6 +9,7 @@ mod lent;
 mod list;
 mod near;
 mod notes;
+mod reasons;
 mod text;
 
 use std::ops::Range;
@@ -20,6 +21,7 @@ pub use lent::{Lent, LentTables};
 pub use list::{answer_word, install_in, list_refusal, map_call_in, packed, words, RUBBISH};
 pub use near::near_by_both;
 pub use notes::{name_by_both, places_by_both, write_note_by_both};
+pub use reasons::{library_reasons, reasons_by_both};
 pub use text::{read_by_both, write_by_both};
 
 /// The numbers from 0, for no refusal, to the highest refusal.

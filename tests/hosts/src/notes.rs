@@ -7,7 +7,7 @@ use spirerivet::AppNode;
 use crate::lent::Lent;
 
 /// What stands in output bytes before a call.
-const BEFORE: u8 = 0xA5;
+pub(crate) const BEFORE: u8 = 0xA5;
 
 /// The k-th name by both: which part of the note it is.
 pub fn name_by_both(told: &str, note: &[u8], k: usize) -> Part {
@@ -21,7 +21,7 @@ pub fn name_by_both(told: &str, note: &[u8], k: usize) -> Part {
 }
 
 /// The outcome of a call that writes so many bytes: they are there, and no other was changed.
-fn written(told: &str, found: Result<usize, u8>, output: &Lent<u8>, expected: &[u8]) -> Result<Vec<u8>, u8> {
+pub(crate) fn written(told: &str, found: Result<usize, u8>, output: &Lent<u8>, expected: &[u8]) -> Result<Vec<u8>, u8> {
     let length = found.unwrap_or(0);
     assert!(output.is(expected), "{told}: {found:?}: the output differs");
     assert!(output.now()[length..].iter().all(|byte| *byte == BEFORE), "{told}: {found:?} changed a byte past the end");

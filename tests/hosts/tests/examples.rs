@@ -1,15 +1,17 @@
-//! Every example of document 01, of M-100's free counts, M-103's maps, M-104's closing 255 and notes and M-105's colours, on the
-//! linked library, the program and the second implementation, and beside what 01 prints.
+//! Every example of document 01, of M-100's free counts, M-103's maps, M-104's closing 255 and notes, M-105's colours and M-106's
+//! reasons, on the linked library, the program and the second implementation, and beside what 01 prints.
 
 use hosts::{
-    answer_word, journal_by_both, library_replay, list_refusal, name_by_both, places_by_both, read_by_both, words,
-    write_by_both, Both, LentTables, Seen,
+    answer_word, journal_by_both, library_replay, list_refusal, name_by_both, places_by_both, read_by_both,
+    reasons_by_both, words, write_by_both, Both, LentTables, Seen,
 };
 use reference::calls::Tables;
 use reference::examples::{all, machine_a, texts, Example, Step, TextExample, ANSWERS_ON_A, JOURNAL_ON_A};
 use reference::note_cases::{NoteCase, NoteSort};
 use reference::note_examples::{notes, NoteExample, NODES, NODE_NAMES};
 use reference::program::output_of;
+use reference::reason_cases::ReasonCase;
+use reference::reason_examples::{reason_examples, ReasonExample};
 
 /// The journal program, named by SPIRERIVET_PLACER.
 fn placer() -> String {
@@ -102,6 +104,16 @@ fn every_example_of_notes() {
     let (good, bad): (Vec<NoteExample>, _) = notes().into_iter().partition(|example| example.places[0].is_ok());
     assert!(good.len() > 10 && bad.len() > 25, "{} good notes, {} bad", good.len(), bad.len());
     good.into_iter().chain(bad).for_each(by_note);
+}
+
+#[test]
+fn every_example_of_reasons() {
+    let (written, refused): (Vec<ReasonExample>, _) =
+        reason_examples().into_iter().partition(|example| example.outcome.is_ok());
+    assert!(written.len() > 60 && refused.len() > 12, "{} written, {} refused", written.len(), refused.len());
+    for ReasonExample { why, tables, job, cpu, room, outcome } in written.into_iter().chain(refused) {
+        assert_eq!(reasons_by_both(why, &ReasonCase { tables, job, cpu, room }), outcome, "{why}");
+    }
 }
 
 #[test]

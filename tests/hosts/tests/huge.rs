@@ -4,6 +4,7 @@ use std::time::{Duration, Instant};
 
 use reference::calls::{request, Answer, Tables};
 use reference::examples::machine_a;
+use reference::reasons::write_reasons;
 use spirerivet::{AppNode, Order, Refusal, SysNode};
 
 /// Zero bytes that nobody has touched: the system has not even made room for them.
@@ -163,6 +164,36 @@ fn huge_maps_are_refused_at_once() {
     assert_eq!(pages, [1, 0, 0, 0, 0, 0]);
     assert_eq!(jobs, machine_a().jobs);
     assert!(maps.iter().all(|byte| *byte == 0));
+}
+
+/// The reasons for job 0 from CPU 0.
+fn reasons(tables: &Tables, out: &mut [u8]) -> Result<usize, Refusal> {
+    let Tables { counts, cpus, distances, pages, jobs, free, maps } = tables;
+    spirerivet::reasons(counts, cpus, distances, pages, jobs, free, maps, 0, 0, out)
+}
+
+/// Each table of the reasons far too long, with no room for them too; and far more pages and output than they need.
+#[test]
+fn reasons_are_refused_and_written_at_once() {
+    for (told, tables) in [
+        ("page counts", Tables { counts: vec![0; HUGE / 4], free: vec![0; HUGE / 4], ..machine_a() }),
+        ("CPU table", Tables { cpus: vec![0; HUGE], ..machine_a() }),
+        ("distances", Tables { distances: vec![0; HUGE], ..machine_a() }),
+        ("job table", Tables { jobs: vec![0; HUGE / 48 * 6], ..machine_a() }),
+        ("free counts", Tables { free: vec![0; HUGE / 4], ..machine_a() }),
+        ("maps", Tables { maps: vec![0; HUGE], ..machine_a() }),
+    ] {
+        assert_eq!(write_reasons(&tables, 0, 0, &mut []), Err(1), "{told}");
+        at_once(&format!("reasons: {told}"), || {
+            assert_eq!(reasons(&tables, &mut []), Err(Refusal::BadTables), "{told}");
+        });
+    }
+    let (tables, mut out) = (Tables { pages: vec![0; HUGE], ..machine_a() }, vec![0; HUGE]);
+    at_once("reasons in far too many bytes, of far too many pages", || {
+        assert_eq!(reasons(&tables, &mut out), Ok(4));
+    });
+    assert_eq!(out[..6], [6, 7, 5, 7, 0, 0]);
+    assert!(out[4..].iter().all(|byte| *byte == 0));
 }
 
 /// Notes, lists and tables of names far too long; and far more output than a note fills.

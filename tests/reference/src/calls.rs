@@ -84,15 +84,15 @@ fn told_number(map: Option<&[u8]>, node: usize) -> Option<AppNode> {
 }
 
 /// What a request goes by: the job's record, its search order and its map.
-struct Asked<'a> {
-    record: Record,
-    order: Vec<Try>,
-    map: Option<&'a [u8]>,
+pub(crate) struct Asked<'a> {
+    pub record: Record,
+    pub order: Vec<Try>,
+    pub map: Option<&'a [u8]>,
 }
 
 /// A request's refusals 1, 2, 15, 3, 4, in this order; else what it goes by (Refusal numbers, M-103). Without maps there is
 /// no 15, and the allowed set alone is the limit: so it was before M-103.
-fn record_and_order<'a>(
+pub(crate) fn record_and_order<'a>(
     machine: Machine,
     counts: &[u32],
     pages: &[u8],

@@ -1,5 +1,6 @@
 //! Document 01's examples and easy mistakes as one table: calls, and what 01 prints for them; a few readings of its rules;
-//! and what M-100 says of free counts, M-103 of maps, M-104 of a closing 255. M-105's are in `colour_examples`.
+//! and what M-100 says of free counts, M-103 of maps, M-104 of a closing 255. M-105's are in `colour_examples`, M-106's in
+//! `reason_examples`.
 //!
 //! This crate runs the table on the second implementation; `hosts` runs it on the linked library and the program too.
 

@@ -1,4 +1,4 @@
-//! The second, independent implementation of document 01, as document 02 amends it: M-100 to M-105.
+//! The second, independent implementation of document 01, as document 02 amends it: M-100 to M-106.
 //!
 //! Written from the papers alone, to be compared with the real one byte for
 //! byte. Plain and slow on purpose: every function is named after the papers'
@@ -25,6 +25,11 @@ pub mod note_examples;
 pub mod notes;
 pub mod order;
 pub mod program;
+pub mod reason_cases;
+pub mod reason_examples;
+pub mod reason_orders;
+pub mod reason_ways;
+pub mod reasons;
 pub mod record;
 pub mod text;
 

@@ -96,8 +96,8 @@ fn no_machine(dice: &mut Dice) -> (usize, Vec<u8>) {
     (nodes, distances)
 }
 
-/// The room for an order of so many nodes: none, one too few, exact, or more.
-fn some_room(dice: &mut Dice, need: usize) -> usize {
+/// The room for so many bytes: none, one too few, exact, or more.
+pub(crate) fn some_room(dice: &mut Dice, need: usize) -> usize {
     match dice.below(8) {
         0 => 0,
         1 => need.saturating_sub(1),

@@ -29,7 +29,7 @@ pub struct Machine<'a> {
 }
 
 /// The distance in row x (The machine: "row by row").
-fn distance(machine: Machine, from: usize, to: usize) -> u8 {
+pub(crate) fn distance(machine: Machine, from: usize, to: usize) -> u8 {
     machine.distances[from * machine.nodes + to]
 }
 
@@ -59,7 +59,7 @@ fn as_near(nodes: Vec<usize>) -> Vec<Try> {
 }
 
 /// "any mode with static and an empty effective set" (Search order).
-fn static_and_empty(record: &Record) -> bool {
+pub(crate) fn static_and_empty(record: &Record) -> bool {
     record.flag == STATIC && record.effective == 0
 }
 

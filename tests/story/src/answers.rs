@@ -3,8 +3,10 @@
 use reference::calls::Call;
 use reference::journal::{call_bytes, ANSWER, ANSWER_MARK, BROKEN};
 
-use crate::picture::{picture, strip};
-use crate::script::{Line, Script};
+use spirerivet::Reason;
+
+use crate::picture::{picture, picture_with, strip};
+use crate::script::{Line, Script, Step};
 
 /// The papers' words for a refusal.
 pub fn refusal_words(number: u8) -> &'static str {
@@ -37,11 +39,12 @@ pub struct Reply {
     pub page: u32,
 }
 
-/// What is told of a line: a call's answer, or words.
+/// What is told of a line: a call's answer, words, or the reason of each node.
 #[derive(Clone, Debug, PartialEq, Eq)]
 pub enum Told {
     Reply(Reply),
     Words(String),
+    Reasons(Vec<u8>),
 }
 
 /// The kind that answers a call: its record's own.
@@ -88,6 +91,14 @@ fn said(call: &Call, reply: Reply, pages: &mut [u8]) -> Result<String, String> {
     Ok(words)
 }
 
+/// The reason of each node in words, and which one would serve.
+fn reason_words(reasons: &[u8]) -> Result<(Vec<&'static str>, String), String> {
+    let words: Option<Vec<&str>> = reasons.iter().map(|byte| Reason::of_number(*byte).map(Reason::words)).collect();
+    let words = words.ok_or_else(|| String::from("reasons from 1 to 7"))?;
+    let chosen = reasons.iter().position(|byte| *byte == Reason::Chosen.number());
+    Ok((words, chosen.map_or(String::from("no node would serve"), |node| format!("node {node} would serve"))))
+}
+
 /// The script told so far.
 struct Telling<'a> {
     script: &'a Script,
@@ -103,15 +114,22 @@ impl Telling<'_> {
         Telling { script, wide, pages: script.machine.pages.clone(), lines }
     }
 
-    /// Adds a line with its answer, and the nodes after it.
+    /// Adds a line with its answer, and the nodes after it; then those with their reasons.
     fn line(&mut self, line: &Line, told: &Told) -> Result<(), String> {
-        let answer = match (told, line.call()) {
-            (Told::Reply(reply), Some(call)) => said(call, *reply, &mut self.pages)?,
-            (Told::Words(words), None) => words.clone(),
+        let (counts, mut why) = (&self.script.machine.counts, Vec::new());
+        let answer = match (told, &line.step) {
+            (Told::Reply(reply), Step::Call(call)) => said(call, *reply, &mut self.pages)?,
+            (Told::Reasons(reasons), Step::Why { .. }) if reasons.len() == counts.len() => {
+                let (words, answer) = reason_words(reasons)?;
+                why = words;
+                answer
+            }
+            (Told::Words(words), step) if !matches!(step, Step::Call(_)) => words.clone(),
             _ => return Err(String::from("an answer for a call, words for another line")),
         };
-        let (wide, nodes) = (self.wide, strip(&self.script.machine.counts, &self.pages));
+        let (wide, nodes) = (self.wide, strip(counts, &self.pages));
         self.lines.push_str(&format!("{:4}  {:wide$}  {nodes}  {answer}\n", line.number, line.text));
+        self.lines.push_str(&picture_with(counts, &self.pages, &why));
         Ok(())
     }
 

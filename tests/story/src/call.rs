@@ -1,4 +1,4 @@
-//! One line of a script after the machine: a call, names or a note.
+//! One line of a script after the machine: a call, names, a note or a question.
 
 use reference::calls::{Call, Tables};
 use reference::maps::{application_node, entries, map_of};
@@ -10,7 +10,7 @@ use spirerivet::which;
 use crate::script::Step;
 
 /// What a line begins with.
-const CALLS: &str = "`request`, `release`, `rebind`, `install`, `clear`, `map`, `keep`, `names` or `note`";
+const CALLS: &str = "`request`, `release`, `rebind`, `install`, `clear`, `map`, `keep`, `names`, `note` or `why`";
 const MODES: &str = "a mode: `default`, `preferred`, `bind`, `interleave`, `list`, `ring` or `early`, or `note`";
 
 /// A plain number up to a limit.
@@ -29,6 +29,11 @@ fn needed(word: &str, what: &str, most: u64) -> Result<u64, String> {
 /// A job number as a journal's byte holds it.
 fn job_of(word: &str) -> Result<usize, String> {
     needed(word, "a job", 255).map(|job| job as usize)
+}
+
+/// A CPU number likewise.
+fn cpu_of(word: &str) -> Result<usize, String> {
+    needed(word, "a CPU", 255).map(|cpu| cpu as usize)
 }
 
 /// The nodes that the job is allowed by the book.
@@ -113,6 +118,8 @@ pub fn read_step(words: &[&str], book: &Tables) -> Result<Step, String> {
         ["install", job, "note", "text"] => Ok(Step::InstallNote { job: job_of(job)?, which: which::TEXT }),
         ["install", job, "note", "data"] => Ok(Step::InstallNote { job: job_of(job)?, which: which::DATA }),
         ["install", _, "note", ..] => Err(String::from("`text` or `data` after `note`")),
+        ["why", job, "cpu", cpu] => Ok(Step::Why { job: job_of(job)?, cpu: cpu_of(cpu)? }),
+        ["why", ..] => Err(String::from("`why JOB cpu CPU`")),
         _ => read_call(words, book).map(Step::Call),
     }
 }
@@ -120,9 +127,7 @@ pub fn read_step(words: &[&str], book: &Tables) -> Result<Step, String> {
 /// The call that the words of a line say, or what was expected.
 fn read_call(words: &[&str], book: &Tables) -> Result<Call, String> {
     match words {
-        ["request", job, "cpu", cpu] => {
-            Ok(Call::Request { job: job_of(job)?, cpu: needed(cpu, "a CPU", 255)? as usize })
-        }
+        ["request", job, "cpu", cpu] => Ok(Call::Request { job: job_of(job)?, cpu: cpu_of(cpu)? }),
         ["release", job, "page", page] => {
             let page = needed(page, "a page", u64::from(u32::MAX))? as usize;
             Ok(Call::Release { job: job_of(job)?, page })

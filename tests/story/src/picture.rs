@@ -61,15 +61,26 @@ pub fn strip(counts: &[u32], pages: &[u8]) -> String {
 }
 
 /// A line for each node.
-pub fn picture(counts: &[u32], pages: &[u8]) -> String {
+fn rows(counts: &[u32], pages: &[u8]) -> Vec<String> {
     let wide = counts.iter().max().map_or(1, |most| most.to_string().len());
-    let mut lines = String::new();
-    for (node, pages) in nodes(counts, pages).into_iter().enumerate() {
+    let row = |(node, pages): (usize, &[u8])| {
         let held = pages.iter().filter(|byte| **byte != 0).count();
         let all = pages.len();
-        lines.push_str(&format!("node {node:2}  {held:wide$} of {all:wide$} held  |{}|\n", marks(pages, ROW)));
-    }
-    lines
+        format!("node {node:2}  {held:wide$} of {all:wide$} held  |{}|", marks(pages, ROW))
+    };
+    nodes(counts, pages).into_iter().enumerate().map(row).collect()
+}
+
+/// The nodes, a line each.
+pub fn picture(counts: &[u32], pages: &[u8]) -> String {
+    rows(counts, pages).into_iter().map(|row| row + "\n").collect()
+}
+
+/// The nodes likewise, each with words.
+pub fn picture_with(counts: &[u32], pages: &[u8], words: &[&str]) -> String {
+    let rows = rows(counts, pages);
+    let wide = rows.iter().map(String::len).max().unwrap_or(0);
+    rows.iter().zip(words).map(|(row, words)| format!("      {row:wide$}  {words}\n")).collect()
 }
 
 #[cfg(test)]
@@ -81,6 +92,8 @@ mod tests {
         assert_eq!(strip(&[2, 2, 0, 2], &[1, 0, 2, 11, 64, 200]), "|0.|1A||&#|");
         let lines = "node  0  1 of 2 held  |0.|\nnode  1  0 of 1 held  |.|\n";
         assert_eq!(picture(&[2, 1], &[1, 0, 0]), lines);
+        let lines = "      node  0  1 of 2 held  |0.|  full\n      node  1  0 of 1 held  |.|   chosen\n";
+        assert_eq!(picture_with(&[2, 1], &[1, 0, 0], &["full", "chosen"]), lines);
     }
 
     #[test]

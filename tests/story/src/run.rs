@@ -1,7 +1,8 @@
-//! A script run by the proved library: its calls by replays, its notes by the calls for them.
+//! A script run by the proved library: its calls by replays, its notes and questions by the calls for them.
 
 use hosts::words;
 use reference::calls::{Call, Tables};
+use reference::journal::MOST_NODES;
 use spirerivet::AppNode;
 
 use crate::answers::{refused_words, told_lines, Reply, Told};
@@ -92,6 +93,15 @@ impl Run<'_> {
         })
     }
 
+    /// The reason of each node for a request, or the refusal.
+    fn why(&self, job: usize, cpu: usize) -> Told {
+        let (mut out, Tables { counts, cpus, distances, pages, jobs, free, maps }) = ([0; MOST_NODES], &self.tables);
+        match spirerivet::reasons(counts, cpus, distances, pages, jobs, free, maps, job, cpu, &mut out) {
+            Ok(nodes) => Told::Reasons(out[..nodes].to_vec()),
+            Err(refusal) => Told::Words(refused_words(refusal.number())),
+        }
+    }
+
     /// Makes lines that are all calls, or one that is none.
     fn lines(&mut self, lines: &[Line]) -> Result<Vec<Told>, String> {
         let words = match &lines[0].step {
@@ -103,6 +113,7 @@ impl Run<'_> {
             Step::Note(text, data) => self.write_note(text, data),
             Step::NoteFile(file) => self.read_note(file)?,
             Step::InstallNote { job, which } => self.install_note(*job, *which)?,
+            Step::Why { job, cpu } => return Ok(vec![self.why(*job, *cpu)]),
         };
         Ok(vec![Told::Words(words)])
     }

@@ -24,6 +24,11 @@ pub enum Step {
         job: usize,
         which: u64,
     },
+    /// Why a request would be served where it would be; it is not made.
+    Why {
+        job: usize,
+        cpu: usize,
+    },
 }
 
 /// A line, as written.
@@ -109,7 +114,7 @@ pub fn read_script(text: &str) -> Result<Script, Fault> {
     let mut read = Vec::new();
     for line in reader.lines {
         let step = read_step(&line.words, &book).map_err(|expected| line.fault(expected))?;
-        // A policy by a note changes neither what the job is allowed nor its map.
+        // A policy by a note changes neither what the job is allowed nor its map, and `why` changes nothing.
         if let Step::Call(call) = &step {
             apply(&mut book, call);
         }
@@ -118,7 +123,7 @@ pub fn read_script(text: &str) -> Result<Script, Fault> {
     Ok(Script { name, machine, lines: read, folder: PathBuf::new() })
 }
 
-/// The journal of a script, which may have no call of maps, no names and no notes.
+/// The journal of a script, which may have no call of maps, no names and notes, and no `why`.
 pub fn journal(script: &Script) -> Result<Vec<u8>, Fault> {
     let mut bytes = machine_bytes(&script.machine);
     for line in &script.lines {

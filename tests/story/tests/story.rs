@@ -6,6 +6,7 @@ use std::process::{Command, Stdio};
 use reference::calls::{apply, Answer, Call, Tables};
 use reference::journal::{read_journal, run};
 use reference::notes::{name, note_places, write_note};
+use reference::reasons::write_reasons;
 use story::answers::{refused_words, told, told_lines, Reply, Told};
 use story::script::{journal, read_script, Script, Step};
 
@@ -77,10 +78,23 @@ impl Book {
         format!("{} bytes: {}", self.note.len(), String::from_utf8(told).unwrap())
     }
 
-    /// What a line that is not one call does.
+    /// What a line tells.
+    fn told(&mut self, step: &Step) -> Result<Told, u8> {
+        match step {
+            Step::Call(call) => Ok(Told::Reply(reply(&mut self.tables, call))),
+            Step::Why { job, cpu } => {
+                let mut out = [0; 64];
+                let nodes = write_reasons(&self.tables, *job, *cpu, &mut out)?;
+                Ok(Told::Reasons(out[..nodes].to_vec()))
+            }
+            _ => self.words(step).map(Told::Words),
+        }
+    }
+
+    /// What a line of names or notes does.
     fn words(&mut self, step: &Step) -> Result<String, u8> {
         match step {
-            Step::Call(call) => panic!("{call:?}"),
+            Step::Call(_) | Step::Why { .. } => panic!("{step:?}"),
             Step::Names(names) => {
                 self.places(names, &[0; 16], 0, 0)?;
                 self.names = names.clone();
@@ -115,13 +129,8 @@ impl Book {
 fn by_the_rules(script: &str) -> String {
     let script = read_script(script).unwrap();
     let mut book = Book { tables: script.machine.clone(), names: Vec::new(), note: Vec::new() };
-    let mut told = Vec::new();
-    for line in &script.lines {
-        told.push(match line.call() {
-            Some(call) => Told::Reply(reply(&mut book.tables, call)),
-            None => Told::Words(book.words(&line.step).unwrap_or_else(refused_words)),
-        });
-    }
+    let refused = |number| Told::Words(refused_words(number));
+    let told: Vec<Told> = script.lines.iter().map(|line| book.told(&line.step).unwrap_or_else(refused)).collect();
     told_lines(&script, &told).unwrap()
 }
 
@@ -179,10 +188,16 @@ const NOTES: &str = "`note FILE`, or `note text NAMES data NAMES` or one of the 
 const AFTER_BIND: &str = "a node list after `bind`, then `static`, `relative` or nothing";
 const LISTS: &str = "such as `0-3,5`, `!2`, `+0-1`, `all` or `none` in place of";
 
+/// A line of a script that is wrong, and what was expected.
+fn is_bad(line: &str, expected: &str) {
+    let fault = read_script(&on_a(&format!("clear 0\n\n# the next line is bad\n{line}\n"))).unwrap_err();
+    assert_eq!(fault.to_string(), format!("line 11: expected {expected}, found `{line}`"));
+}
+
 #[test]
 fn bad_lines_say_where_and_what() {
     for (line, expected) in [
-        ("ask 0", "`request`, `release`, `rebind`, `install`, `clear`, `map`, `keep`, `names` or `note`"),
+        ("ask 0", "`request`, `release`, `rebind`, `install`, `clear`, `map`, `keep`, `names`, `note` or `why`"),
         ("note", NOTES),
         ("note A B", NOTES),
         ("install 0 note", "`text` or `data` after `note`"),
@@ -212,9 +227,17 @@ fn bad_lines_say_where_and_what() {
         ("install 0 ring 3,,1", "places from 0 to 255 such as `3,3,1` in place of `3,,1`"),
         ("install 0 ring 3 static", "places such as `3,3,1` after `ring`, and nothing else"),
     ] {
-        let fault = read_script(&on_a(&format!("clear 0\n\n# the next line is bad\n{line}\n"))).unwrap_err();
-        assert_eq!(fault.to_string(), format!("line 11: expected {expected}, found `{line}`"));
+        is_bad(line, expected);
     }
+}
+
+#[test]
+fn bad_questions_say_where_and_what() {
+    for line in ["why", "why 0", "why 0 1", "why 0 cpu", "why 0 cpu 1 2", "why 0 page 1"] {
+        is_bad(line, "`why JOB cpu CPU`");
+    }
+    is_bad("why 256 cpu 0", "a job from 0 to 255 in place of `256`");
+    is_bad("why 0 cpu 256", "a CPU from 0 to 255 in place of `256`");
 }
 
 #[test]
@@ -269,6 +292,35 @@ fn the_story_of_programs_that_name_their_memory() {
     assert_eq!(story::run::run(&script).unwrap(), told);
     let fault = journal(&script).unwrap_err().to_string();
     assert!(fault.starts_with("line 11: expected a call that a journal has"), "{fault}");
+}
+
+#[test]
+fn the_story_of_a_node_that_holds_no_page() {
+    let (script, told) = (include_str!("../scripts/why.txt"), include_str!("../scripts/why.told.txt"));
+    assert_eq!(by_the_rules(script), told);
+    let script = read_script(script).unwrap();
+    assert_eq!(story::run::run(&script).unwrap(), told);
+    for words in spirerivet::Reason::ALL.map(spirerivet::Reason::words) {
+        assert!(told.lines().any(|line| line.starts_with("      node  3") && line.ends_with(words)), "{words}");
+    }
+    let fault = journal(&script).unwrap_err().to_string();
+    assert_eq!(
+        fault,
+        "line 13: expected a call that a journal has (`story run` takes every script), found `why 0 cpu 2`"
+    );
+}
+
+/// The same script without its `why` lines leaves the same nodes and gets the same answers.
+#[test]
+fn why_changes_nothing() {
+    let script = read_script(include_str!("../scripts/why.txt")).unwrap();
+    let lines = script.lines.iter().filter(|line| line.call().is_some()).cloned().collect();
+    let without = Script { lines, ..script.clone() };
+    let [told, told_without] = [&script, &without].map(|script| story::run::run(script).unwrap());
+    let is_why = |line: &str| line.get(6..).is_some_and(|text| text.starts_with("why") || text.starts_with("node"));
+    let answers = |told: &str| told.lines().filter(|line| !is_why(line)).map(str::to_string).collect::<Vec<String>>();
+    assert!(answers(&told).len() + 15 < told.lines().count());
+    assert_eq!(answers(&told), answers(&told_without));
 }
 
 #[test]
@@ -355,7 +407,17 @@ fn bad_replies_say_where_and_what() {
     let far = Told::Reply(Reply { refusal: 0, node: 0, page: 6 });
     assert_eq!(message(far), "answer 1 (line 9): expected a page of this machine");
     let words = Told::Words(String::from("done"));
-    assert_eq!(message(words), "answer 1 (line 9): expected an answer for a call, words for another line");
+    let reasons = Told::Reasons(vec![6, 7, 5, 7]);
+    for told in [words, reasons.clone()] {
+        assert_eq!(message(told), "answer 1 (line 9): expected an answer for a call, words for another line");
+    }
+    let why = read_script(&on_a("why 0 cpu 0\n")).unwrap();
+    let told = |reasons: &[u8]| told_lines(&why, &[Told::Reasons(reasons.to_vec())]);
+    assert!(told(&[6, 7, 5, 7]).unwrap().contains("node  0  0 of 2 held  |..|  chosen\n"));
+    assert_eq!(told(&[6, 7, 8, 7]).unwrap_err(), "answer 0 (line 8): expected reasons from 1 to 7");
+    for wrong in [told(&[6, 7, 5]), told_lines(&why, &[done])] {
+        assert_eq!(wrong.unwrap_err(), "answer 0 (line 8): expected an answer for a call, words for another line");
+    }
 }
 
 #[test]
@@ -442,6 +504,10 @@ fn the_program() {
     let (good, lines, _) = program(&["run", notes], b"");
     assert!(good);
     assert_eq!(lines, include_bytes!("../scripts/notes.told.txt"));
+    let why = concat!(env!("CARGO_MANIFEST_DIR"), "/scripts/why.txt");
+    let (good, lines, _) = program(&["run", why], b"");
+    assert!(good);
+    assert_eq!(lines, include_bytes!("../scripts/why.told.txt"));
     let (good, nothing, message) = program(&["journal"], include_bytes!("../scripts/maps.txt"));
     assert!(!good && nothing.is_empty());
     assert!(message.starts_with("line 12: expected a call that a journal has"), "{message}");

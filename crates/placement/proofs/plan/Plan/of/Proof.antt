@@ -12,12 +12,13 @@ use lib.Bits.{and-le-l}
 use Rattle.rules.specs.Masks.{mostNodes}
 use Rattle.rules.specs.Records.{Record, aMask, rowOf, carries, modeOf, cursorLimit, placesOf}
 use Rattle.rules.specs.SearchOrder.{Try, try, nearest, placed, target, planIn, plan}
-use Rattle.rules.proofs.WellFormed.{Formed, formed, carries-list}
+use Rattle.rules.proofs.Target.{no-target}
+use Rattle.rules.proofs.WellFormed.{Formed, formed, effective-lt, carries-list}
 use Rattle.nodemask.specs.Found.{foundNode}
 use Rattle.records.specs.declared.job.Mode.{Mode}
 use Rattle.records.specs.Jobs.{carriedIn, recordWith, jobOf}
 use Rattle.placement.specs.Plans.{leaves, walkTries, earlyTries}
-use Rattle.placement.proofs.Plans.{effective-lt, lowest-below, target-below, some-target, no-target, default-plan, preferred-plan}
+use Rattle.placement.proofs.Plans.{lowest-below, target-below, some-target, default-plan, preferred-plan}
 use Rattle.placement.proofs.Plans.{bind-plan, interleave-plan, none-effective, some-user, list-plan, place-at, ring-tries}
 use Rattle.placement.proofs.plan.Plan.of.Statement.{statement}
 use Rattle.placement.proofs.plan.Plan.of.Tie as tie

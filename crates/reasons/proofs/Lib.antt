@@ -1,0 +1,4 @@
+pub mod Room
+pub mod Put
+pub mod Reaches
+pub mod Explains
