@@ -30,6 +30,13 @@ impl Kept<'_> {
     pub fn nodes(&self) -> u64 {
         self.mask
     }
+
+    /// Lets a call change the counts as it likes.
+    pub fn change<T>(&mut self, call: impl FnOnce(&mut [u32]) -> T) -> T {
+        let given = call(self.counts);
+        self.mask = counted(self.counts);
+        given
+    }
 }
 
 impl<'a, const KEPT: bool> Free<'a, KEPT> {

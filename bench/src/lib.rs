@@ -2,7 +2,9 @@
 
 #![deny(unsafe_code)]
 
+pub mod boards;
 pub mod colours;
+pub mod drain;
 pub mod fast;
 mod free;
 mod hints;

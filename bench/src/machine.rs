@@ -66,9 +66,14 @@ impl<'a> Machine<'a> {
         all_ok.then_some(Machine { nodes, cpus, distances, starts })
     }
 
+    /// The distances from x.
+    pub fn row(&self, x: usize) -> &[u8] {
+        &self.distances[x * self.nodes..][..self.nodes]
+    }
+
     /// The nodes that can be reached from x.
     pub fn reached(&self, x: usize) -> u64 {
-        nodes_with(&self.distances[x * self.nodes..][..self.nodes], |far| far != 255)
+        nodes_with(self.row(x), |far| far != 255)
     }
 
     /// The nearest of these nodes in row x that can be reached, the lowest of those as near.

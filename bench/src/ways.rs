@@ -5,6 +5,7 @@ use std::time::{Duration, Instant};
 use reference::calls::{Call, Tables};
 use spirerivet::{Answer, AppNode, SysNode};
 
+use crate::drain::drain;
 use crate::fast::{self, Out};
 use crate::list;
 
@@ -34,6 +35,7 @@ pub fn words_of(call: &Call) -> [u64; 16] {
         Call::Fresh => spirerivet::Call::Fresh,
         Call::KeepNodes { job, kept } => spirerivet::Call::KeepNodes { job: wide(job), kept: AppNode::list(kept) },
         Call::SetMap { job, list } => spirerivet::Call::SetMap { job: wide(job), list: SysNode::list(list) },
+        Call::Drain { node, room } => spirerivet::Call::Drain { node: wide(node), room: wide(room) },
     })
 }
 
@@ -42,6 +44,7 @@ fn word_of(answer: Answer) -> u64 {
     let out = match answer {
         Answer::Granted { node, page } => Out { refusal: 0, node: node.0, page },
         Answer::Released { node, page } => Out { refusal: 0, node: node.map_or(255, |node| node.0), page },
+        Answer::Drained { moves } => Out { refusal: 0, node: 255, page: moves },
         Answer::Done => Out { refusal: 0, node: 255, page: u32::MAX },
         Answer::Refused(refusal) => Out { refusal: refusal.number(), node: 255, page: u32::MAX },
     };
@@ -62,6 +65,13 @@ fn library_call(nodes: usize, tables: &mut Tables, call: &Call) -> u64 {
         Call::Fresh => spirerivet::fresh(counts, pages, free),
         Call::KeepNodes { job, kept } => spirerivet::keep_nodes(nodes, jobs, maps, *job, AppNode::list(kept)),
         Call::SetMap { job, list } => spirerivet::set_map(nodes, jobs, maps, *job, SysNode::list(list)),
+        Call::Drain { node, room } => {
+            let mut moves = vec![0; (*room).min(2 * pages.len())];
+            match spirerivet::drain(counts, distances, pages, jobs, free, maps, *node, &mut moves) {
+                Ok(moves) => Answer::Drained { moves: moves as u32 },
+                Err(refusal) => Answer::Refused(refusal),
+            }
+        }
     })
 }
 
@@ -79,6 +89,13 @@ pub fn fast_call(nodes: usize, tables: &mut Tables, call: &Call) -> u64 {
         Call::Fresh => fast::fresh(counts, pages, free),
         Call::KeepNodes { job, kept } => fast::keep_nodes(nodes, jobs, maps, *job, kept),
         Call::SetMap { job, list } => fast::set_map(nodes, jobs, maps, *job, list),
+        Call::Drain { node, room } => {
+            let mut moves = vec![0; (*room).min(2 * pages.len())];
+            match drain(counts, distances, pages, jobs, free, maps, *node, &mut moves) {
+                Ok(moves) => Out { refusal: 0, node: 255, page: moves as u32 },
+                Err(number) => fast::refused(number),
+            }
+        }
     };
     out.word()
 }

@@ -19,6 +19,7 @@ fn word(answer: Answer) -> u64 {
     let (refusal, node, page) = match answer {
         Answer::Granted { node, page } => (0, node.0, page),
         Answer::Released { node, page } => (0, node.map_or(255, |node| node.0), page),
+        Answer::Drained { moves } => (0, 255, moves),
         Answer::Done => (0, 255, u32::MAX),
         Answer::Refused(number) => (number, 255, u32::MAX),
     };
@@ -38,6 +39,7 @@ impl Seen {
             Call::Install { .. } => "install",
             Call::KeepNodes { .. } => "keep",
             Call::SetMap { .. } => "set",
+            Call::Drain { .. } => "drain",
             _ => return,
         };
         *self.0.entry((kind, word as u8)).or_default() += 1;
@@ -59,6 +61,7 @@ impl Seen {
         self.all("fresh", &[0, 1]);
         self.all("keep", &[0, 1, 2, 15]);
         self.all("set", &[0, 1, 2, 15]);
+        self.all("drain", &[0, 1, 6, 14, 17]);
     }
 }
 
@@ -204,7 +207,7 @@ fn bad_lists_are_refused_alike() {
         assert_eq!(both_replays(&start, &words, calls.len()), Ok(calls.len()));
         assert_eq!(both_replays(&start, &words, calls.len() - 1), Err(11));
         assert_eq!(both_replays(&start, &words[1..], calls.len()), Err(13));
-        for kind in [0, 6, 15, 19, u64::MAX] {
+        for kind in [0, 6, 15, 20, u64::MAX] {
             let mut words = words.clone();
             words[16 * (seed as usize % calls.len())] = kind;
             assert_eq!(both_replays(&start, &words, calls.len()), Err(13));

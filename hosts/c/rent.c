@@ -1,5 +1,6 @@
 /* Rents out machine A of document 01 to one job, as ring {3,3,1}, then to a tenant that numbers its nodes from 0, loads a
- * program that names its memory, and asks why a node serves or not: prints each answer.
+ * program that names its memory, asks why a node serves or not, and empties a node so that its board can be pulled: prints
+ * each answer.
  *
  *   rt staticlib spirerivet
  *   gcc -std=c11 hosts/c/rent.c target/staticlib/libspirerivet.a -o rent && ./rent | diff hosts/c/expected.txt -
@@ -114,6 +115,24 @@ static void show_why(size_t job, size_t cpu)
     printf("why:");
     for (size_t node = 0; node < n.value; node++)
         printf("%s %zu %s", node == 0 ? "" : ",", node, words[out[node] <= SPIRE_LATER ? out[node] : 0]);
+    printf("\n");
+}
+
+/* Empties a node: every page that moved, from where to where. */
+static void show_drain(size_t node)
+{
+    uint32_t moves[2 * PAGES];
+    struct spire_number n =
+        spire_drain(counts, NODES, distances, sizeof distances, pages, PAGES, jobs, JOBS * SPIRE_JOB_WORDS, free_counts,
+                    NODES, maps, sizeof maps, node, moves, 2 * PAGES);
+
+    if (n.refusal != SPIRE_DONE) {
+        printf("drain %zu: refused %u\n", node, (unsigned)n.refusal);
+        return;
+    }
+    printf("drain %zu: %lu pages", node, (unsigned long)n.value);
+    for (size_t turn = 0; turn < n.value; turn++)
+        printf(", %lu to %lu", (unsigned long)moves[2 * turn], (unsigned long)moves[2 * turn + 1]);
     printf("\n");
 }
 
@@ -247,6 +266,21 @@ static void rent_named(void)
     go_by(TENANT, note, (size_t)length.value - 1, SPIRE_TEXT);
 }
 
+/* Node 1 has to go: no new page may come to it, its pages move, and then it is empty. */
+static void pull_board(void)
+{
+    static const uint8_t two[] = {0, 3};
+
+    show("allow 0,2-3", allow(RENTER, 0xD));
+    show("tenant: allow 0,2-3", allow(TENANT, 0xD));
+    show_drain(1); /* Node 0 has one free page, and the tenant's map no other node: so none moves. */
+    show("tenant: map 0,3", set_map(TENANT, two, sizeof two));
+    show_drain(1);
+    show_drain(1); /* It is empty, and stays so. */
+    show_free();
+    show("tenant: release 5", release(TENANT, 5)); /* A page that moved is its job's, by its new number. */
+}
+
 int main(void)
 {
     show("fresh", spire_fresh(counts, NODES, pages, PAGES, free_counts, NODES));
@@ -254,6 +288,7 @@ int main(void)
     rent_all();
     rent_two();
     rent_named();
+    pull_board();
     show_nodes("!1-2");
     show_nodes("5-3");
     show_near(0);

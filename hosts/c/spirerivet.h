@@ -9,7 +9,8 @@
  *   distances    N x N bytes, row by row: 10 on the diagonal, 255 for unreachable
  *   pages        a byte for each page, node 0's first: 0 free, j + 1 held by job j
  *   jobs         SPIRE_JOB_WORDS words for each of 1 to 64 jobs; all zero: a fresh job
- *   free_counts  the number of free pages of each node, N counts: spire_fresh makes them, request and release keep them up
+ *   free_counts  the number of free pages of each node, N counts: spire_fresh makes them; request, release and drain keep
+ *                them up
  *   maps         SPIRE_MAP_BYTES bytes for each job: 1 to 64 different nodes of the machine, then SPIRE_MAP_END to the end
  *   masks        bit n stands for node n
  *
@@ -50,19 +51,23 @@ enum spire_refusal {
     SPIRE_NO_ROOM = 8,            /* every node in the search order is counted 0: full, if the counts match */
     SPIRE_NOTHING_EFFECTIVE = 9,  /* the rebind would leave the job's mask empty */
     SPIRE_NOT_HELD = 10,          /* no such page, or not this job's */
-    SPIRE_OUTPUT_TOO_SHORT = 11,  /* for what would be written; reasons need a byte for each node */
+    SPIRE_OUTPUT_TOO_SHORT = 11,  /* for what would be written; reasons need a byte for each node, a drain two numbers for each
+                                   * page that moves */
     SPIRE_BAD_TEXT = 12,
     SPIRE_DAMAGED_JOURNAL = 13,   /* a replay's list of calls has an unknown kind or is cut short */
     SPIRE_WRONG_COUNT = 14,       /* a free count disagrees with the page table: a node counted above 0 has no free page (in
                                    * a request and in its reasons), or a release would count more free pages than its node
-                                   * has. Count the free pages of each node anew, or call spire_fresh when no page is in
-                                   * use */
+                                   * has; a drain looks at every node's count. Count the free pages of each node anew, or
+                                   * call spire_fresh when no page is in use */
     SPIRE_BAD_MAP = 15,           /* the job's map is none: empty, a node twice, a node that the machine does not have, or one
                                    * after an SPIRE_MAP_END; set it anew by spire_set_map. Or the list of spire_keep_nodes or
                                    * spire_set_map is no good one */
-    SPIRE_BAD_NOTE = 16           /* the note is none: its counts and sizes do not fit its bytes exactly, or a list of names
+    SPIRE_BAD_NOTE = 16,          /* the note is none: its counts and sizes do not fit its bytes exactly, or a list of names
                                    * is bad: over 16 names, one of no byte, of over 15, `text`, `data` or `any`, or `ANY`
                                    * before the last. Or a list of spire_write_note is such a one */
+    SPIRE_NOWHERE_TO_GO = 17      /* a page of the node that is drained: its job may use no other node that can be reached and
+                                   * has room, or its byte names no job, or the job's record or map is none. Let the job use
+                                   * more nodes, make room or release the page; then drain again */
 };
 
 enum spire_mode {
@@ -134,6 +139,17 @@ struct spire_answer spire_release(const uint32_t *counts, size_t nodes, uint8_t 
 struct spire_answer spire_fresh(const uint32_t *counts, size_t nodes, uint8_t *pages, size_t page_count,
                                 uint32_t *free_counts, size_t free_len);
 
+/* A node, by its system number, emptied before its board is pulled: how many pages moved. Each held page of it, from the
+ * lowest up, goes to the nearest node with room that its job may use and has in its map, other than this one; nearest by this
+ * node's row of distances. There it gets the page that a request of the job would get. Old and new number of each page stand
+ * at the start of moves, in the order moved: two numbers each, so twice the node's pages are always enough. All is worked out
+ * before anything is written: if one page has nowhere to go, none moves. Writes pages, free_counts and that many numbers of
+ * moves; records, with their cursors, stay. Refusals 1, 6, 14, 17, 11. */
+struct spire_number spire_drain(const uint32_t *counts, size_t nodes, const uint8_t *distances, size_t distance_count,
+                                uint8_t *pages, size_t page_count, const uint64_t *jobs, size_t job_words,
+                                uint32_t *free_counts, size_t free_len, const uint8_t *maps, size_t map_bytes,
+                                size_t node, uint32_t *moves, size_t moves_len);
+
 /* Why a request of the job from the CPU would be served where it would be: a byte of enum spire_reason for each node of the
  * machine, by system numbers, at the start of out; N. One node is SPIRE_CHOSEN if the request would be granted, none if it
  * would be refused 8, which is no refusal here. Each reason is true of the search order if the free counts match the pages.
@@ -202,12 +218,14 @@ struct spire_order spire_near(size_t nodes, const uint8_t *distances, size_t dis
                               uint8_t *out, size_t out_bytes);
 
 /* A list of calls, one after the other: how many. A call is SPIRE_CALL_WORDS words: kind (1 request, 2 release, 3 rebind,
- * 4 install, 5 clear, 16 fresh, 17 keep nodes, 18 set map); job; CPU, page, allowed mask or mode; flag; user mask; number of
- * places or nodes; two words unused; then the first 64 places or nodes, one byte each, lowest byte first. Any number may be
- * said, those past the 64th are zero: over SPIRE_PLACES places the install is refused in its own order, as in spire_install,
- * over 64 nodes a keep or a set likewise. A fresh has its kind alone. An answer is one word: refusal in bits 0-7, node in
- * 8-15, page in 32-63. Writes pages, jobs, free_counts, maps and an answer for each call. Refusals, then with no call run: 1;
- * 13 (an unknown kind, or call_words no multiple of SPIRE_CALL_WORDS); 11 (fewer answers than calls). */
+ * 4 install, 5 clear, 16 fresh, 17 keep nodes, 18 set map, 19 drain); job, or the node to drain; CPU, page, allowed mask, mode,
+ * or a drain's room in 32-bit numbers; flag; user mask; number of places or nodes; two words unused; then the first 64 places
+ * or nodes, one byte each, lowest byte first. Any number may be said, those past the 64th are zero: over SPIRE_PLACES places
+ * the install is refused in its own order, as in spire_install, over 64 nodes a keep or a set likewise. A fresh has its kind
+ * alone. An answer is one word: refusal in bits 0-7, node in 8-15, page in 32-63; a drain that was made has SPIRE_NO_NODE, and
+ * in 32-63 how many pages moved: its pairs are not handed out. Writes pages, jobs, free_counts, maps and an answer for each
+ * call. Refusals, then with no call run: 1; 13 (an unknown kind, or call_words no multiple of SPIRE_CALL_WORDS); 11 (fewer
+ * answers than calls). */
 struct spire_number spire_replay(const uint32_t *counts, size_t nodes, const uint8_t *cpus, size_t cpu_count,
                                  const uint8_t *distances, size_t distance_count, uint8_t *pages, size_t page_count,
                                  uint64_t *jobs, size_t job_words, uint32_t *free_counts, size_t free_len,

@@ -1,16 +1,21 @@
 -- A call by value that did what the rules say did the book's step.
 -- Assumes nothing.
 use Prim.Native.Nat.{ℕ}
-use mathlib.Core.Path.{_≡_, sym, _∙_}
+use mathlib.Core.Path.{_≡_, refl, sym, _∙_}
 use mathlib.Core.List.{List}
+use lib.ListN.{length}
 use Rattle.rules.specs.Machine.{Machine, nodeCount}
 use Rattle.rules.specs.Records.{Policy, policy}
-use Rattle.rules.specs.Calls.{Answer, Tables, outcome, onRequest, onRelease, onFresh, onInstall, onRebind, onClear, onKeep, onSetMap}
-use Rattle.rules.specs.Book.{Call as LawCall, request, release, rebind, clear, freshTable, decision, step}
+use Rattle.rules.specs.Calls.{Answer, Tables, outcome, applied, onRequest, onRelease, onFresh, onInstall, onRebind, onClear, onKeep, onSetMap}
+use Rattle.rules.specs.Decisions.{Decision, refuse, accept}
+use Rattle.rules.specs.Drain.{Move, drainDecision}
+use Rattle.rules.specs.Book.{Call as LawCall, request, release, rebind, clear, freshTable, drain, decision, step}
+use Rattle.rules.proofs.Decisions.{not-accepted}
 use Rattle.records.specs.declared.policy.AppPolicy.{AppPolicy}
 use Rattle.records.specs.Jobs.{Asks}
+use Rattle.drain.specs.Outcomes.{countOf}
 use Rattle.book.specs.declared.Call.{Call}
-use Rattle.book.specs.declared.Call.the-variants.{Request, Release, Rebind, Install, Clear, Fresh, Keep, SetMap}
+use Rattle.book.specs.declared.Call.the-variants.{Request, Release, Rebind, Install, Clear, Fresh, Keep, SetMap, Drain}
 use Rattle.book.specs.Says.{Named, Says}
 
 module _ (m : Machine) (t after : Tables) (a : Answer) (call : Call) (places bytes : List ℕ) (c : LawCall) (s : Says call places bytes c) where
@@ -67,3 +72,21 @@ module _ (m : Machine) (t after : Tables) (a : Answer) (call : Call) (places byt
       → outcome a after ≡ step m t c
   unfolding step decision onSetMap
   did-set {j} {len} e o = let q = rw e at s in rw (q .1) (o (q .0) (q .2))
+
+  -- M-107: a drain
+  pub did-drain : {x room : ℕ} → call ≡ Drain x room → outcome a after ≡ applied t (drainDecision (m .pageCounts) (m .distances) x t room)
+      → outcome a after ≡ step m t c
+  unfolding step decision
+  did-drain {x} {room} e o = let q : c ≡ drain x room = rw e at s in rw q o
+
+-- ---- what a drain answers
+
+-- so many moves
+pub counted-moves : {k : ℕ} (d : Decision (List Move)) → accept k ≡ countOf d → (vs : List Move) × (d ≡ accept vs) × (k ≡ length vs)
+counted-moves (refuse r) e = absurd (not-accepted r _ refl (sym e))
+counted-moves (accept vs) e = (vs, refl, cc)
+
+-- or a refusal
+pub refused-moves : {r : ℕ} (d : Decision (List Move)) → refuse r ≡ countOf d → d ≡ refuse r
+refused-moves (refuse q) e = cc
+refused-moves (accept vs) e = absurd (not-accepted _ _ (sym e) refl)

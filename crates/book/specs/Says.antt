@@ -5,9 +5,9 @@ use mathlib.Core.List.{List, _++_}
 use lib.ListN.{length, take, replicate}
 use Rattle.rules.specs.Records.{placesPerJob, policy}
 use Rattle.rules.specs.Maps.{mapSize}
-use Rattle.rules.specs.Book.{Call as LawCall, request, release, install, rebind, clear, freshTable, keepNodes, setMap}
+use Rattle.rules.specs.Book.{Call as LawCall, request, release, install, rebind, clear, freshTable, keepNodes, setMap, drain}
 use Rattle.book.specs.declared.Call.{Call}
-use Rattle.book.specs.declared.Call.the-variants.{Request, Release, Rebind, Install, Clear, Fresh, Keep, SetMap}
+use Rattle.book.specs.declared.Call.the-variants.{Request, Release, Rebind, Install, Clear, Fresh, Keep, SetMap, Drain}
 
 -- A list of so many places: "sixteen list places" hold its first sixteen, with zeros behind a shorter one.
 pub record Listed (len : ℕ) (places list : List ℕ) : Type 0 where
@@ -30,3 +30,4 @@ Says (Clear job) places bytes c = c ≡ clear job
 Says Fresh places bytes c = c ≡ freshTable
 Says (Keep job len) places bytes c = (list : List ℕ) × (c ≡ keepNodes job list) × Named len bytes list
 Says (SetMap job len) places bytes c = (list : List ℕ) × (c ≡ setMap job list) × Named len bytes list
+Says (Drain node room) places bytes c = c ≡ drain node room

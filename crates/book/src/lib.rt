@@ -52,6 +52,10 @@ pub enum Call {
         job: usize,
         len: usize,
     },
+    Drain {
+        node: usize,
+        room: usize,
+    },
 }
 
 // Runs a call on tables that are in order, and keeps the hints.
@@ -114,5 +118,17 @@ pub fn perform(
         Call::Fresh => hints::fresh(counts, starts, hints, pages, free),
         Call::Keep { job, len } => lists::keep(nodes, jobs, maps, job, list, len),
         Call::SetMap { job, len } => lists::set(nodes, jobs, maps, job, list, len),
+        Call::Drain { node, room } => hints::drain_node(
+            counts,
+            starts,
+            hints,
+            distances,
+            pages,
+            jobs,
+            free,
+            maps,
+            node,
+            room,
+        ),
     }
 }

@@ -19,10 +19,11 @@ use Rattle.rules.specs.Decisions.{Decision, refuse, accept}
 use Rattle.rules.specs.Calls.{Tables, Change, afterStores, afterRemaps, applied, granting, storing, mapping, mapOf, isMapped, limitOf, orderOf}
 use Rattle.rules.specs.Calls.{requestDecision, releaseDecision, freshDecision, installDecision, rebindDecision, clearDecision, keepDecision}
 use Rattle.rules.specs.Calls.{setMapDecision}
-use Rattle.rules.specs.Book.{Call, request, release, install, rebind, clear, freshTable, keepNodes, setMap, decision, step}
+use Rattle.rules.specs.Drain.{drainDecision}
+use Rattle.rules.specs.Book.{Call, request, release, install, rebind, clear, freshTable, keepNodes, setMap, drain, decision, step}
 use Rattle.rules.specs.FreeCounts.{Matches, firstWithRoom}
 use Rattle.rules.proofs.Admission.{Passes, accepted}
-use Rattle.rules.proofs.Calls.{installs, rebinds, clears, keepings, setMaps, releases, freshens, serves, granted-in-node}
+use Rattle.rules.proofs.Calls.{installs, rebinds, clears, keepings, setMaps, releases, freshens, drains-so, serves, granted-in-node}
 use Rattle.rules.proofs.AsBefore.{chosen-first, matches-kept}
 use Rattle.rules.proofs.Maps.{good-parts, map-nodes, kept-good, map-other}
 use Rattle.rules.proofs.Masks.{zero-and}
@@ -103,16 +104,11 @@ request-effect m t j i k = go (eqb i j) refl
 
 -- ---- the other calls
 
-release-keeps : (counts : List ℕ) (t : Tables) (j i p : ℕ) (d : Decision Change) → releaseDecision counts t i p ≡ d
-    → Same j t (applied t d .tables)
+-- a call that stores no record and sets no map
+pages-keep : (t : Tables) (j : ℕ) (d : Decision Change) → ((x : Change) → d ≡ accept x → (x .stores ≡ []) × (x .remaps ≡ [])) → Same j t (applied t d .tables)
 unfolding applied afterStores afterRemaps mapOf
-release-keeps counts t j i p (refuse r) e = record { held = refl; mapped = refl }
-release-keeps counts t j i p (accept x) e = let s = releases counts t i p e .1 in record { held = rw s; mapped = rw s }
-
-fresh-keeps : (counts : List ℕ) (t : Tables) (j : ℕ) (d : Decision Change) → freshDecision counts t ≡ d → Same j t (applied t d .tables)
-unfolding applied afterStores afterRemaps mapOf
-fresh-keeps counts t j (refuse r) e = record { held = refl; mapped = refl }
-fresh-keeps counts t j (accept x) e = let s = freshens counts t e .1 in record { held = rw s; mapped = rw s }
+pages-keep t j (refuse r) s = record { held = refl; mapped = refl }
+pages-keep t j (accept x) s = let w = s x refl in record { held = rw (w .0); mapped = rw (w .1) }
 
 -- a call that stores a record for job i, if it is accepted, leaves those of the other jobs; and that of job i, if it is refused
 storing-keeps : (t : Tables) (j i : ℕ) (d : Decision Change) → ((x : Change) → d ≡ accept x → (r : Record) × (x ≡ storing i r))
@@ -179,15 +175,19 @@ clear-effect m t j i = go (eqb i j) refl
 pub effect : (m : Machine) (j : ℕ) (t : Tables) (c : Call) → (setsPolicy j c ≡ true → isRefused (step m t c .answer) ≡ true) → Effect m j t c
 unfolding step decision grantIn setsPolicy
 effect m j t (request i k) u = request-effect m t j i k
-effect m j t (release i p) u = quiet refl (release-keeps (m .pageCounts) t j i p _ refl)
+effect m j t (release i p) u =
+    quiet refl (pages-keep t j (releaseDecision (m .pageCounts) t i p) (λ x q. rw (releases (m .pageCounts) t i p q .1) (refl, refl)))
 effect m j t (install i p) u =
     quiet refl (storing-keeps t j i (installDecision (nodeCount m) t i p) (λ x q. (_, installs (nodeCount m) t i p q .1)) u)
 effect m j t (rebind i allowed) u =
     quiet refl (storing-keeps t j i (rebindDecision (nodeCount m) (t .records) i allowed) (λ x q. (_, rebinds (nodeCount m) (t .records) i allowed q .1)) u)
 effect m j t (clear i) u = clear-effect m t j i
-effect m j t freshTable u = quiet refl (fresh-keeps (m .pageCounts) t j _ refl)
+effect m j t freshTable u = quiet refl (pages-keep t j (freshDecision (m .pageCounts) t) (λ x q. rw (freshens (m .pageCounts) t q .1) (refl, refl)))
 effect m j t (keepNodes i kept) u = quiet refl (keep-keeps (nodeCount m) t j i kept u)
 effect m j t (setMap i nodes) u = quiet refl (set-keeps (nodeCount m) t j i nodes u)
+effect m j t (drain y room) u =
+    quiet refl (pages-keep t j (drainDecision (m .pageCounts) (m .distances) y t room)
+    (λ x q. rw (drains-so (m .pageCounts) (m .distances) y t room q .2) (refl, refl)))
 
 -- ---- a list of calls
 

@@ -12,8 +12,8 @@ use Rattle.rules.specs.Machine.{Machine, nodeCount, nodeOfPage}
 use Rattle.rules.specs.Masks.{mostNodes, has, size}
 use Rattle.rules.specs.Records.{Record, recordAt}
 use Rattle.rules.specs.SearchOrder.{nodeAt, ringPlaces, hasRoom}
-use Rattle.rules.specs.Calls.{Answer, granted, released, done, refused, Tables, limitOf}
-use Rattle.rules.specs.Book.{Call, request, release, install, rebind, clear, freshTable, keepNodes, setMap, step}
+use Rattle.rules.specs.Calls.{Answer, granted, released, done, drained, refused, Tables, limitOf}
+use Rattle.rules.specs.Book.{Call, request, release, install, rebind, clear, freshTable, keepNodes, setMap, drain, step}
 use Rattle.rules.specs.FreeCounts.{Matches}
 
 -- the record of job j in some tables
@@ -29,9 +29,10 @@ unfoldable pub grantBy : Tables → Answer → List Grant
 grantBy t (granted n p) = record { before = t; page = p } ∷ []
 grantBy t (released n p) = []
 grantBy t done = []
+grantBy t (drained moves) = []
 grantBy t (refused r) = []
 
--- "granted requests of that job": the one in a call, if it is one
+-- "granted requests of that job": the one in a call, if it is one; M-107: a move "isn't a granted request"
 unfoldable pub grantIn : Machine → ℕ → Tables → Call → List Grant
 grantIn m j t (request i k) = cond (eqb i j) (grantBy t (step m t (request i k) .answer)) []
 grantIn m j t (release i p) = []
@@ -41,6 +42,7 @@ grantIn m j t (clear i) = []
 grantIn m j t freshTable = []
 grantIn m j t (keepNodes i kept) = []
 grantIn m j t (setMap i nodes) = []
+grantIn m j t (drain x room) = []
 
 -- "whatever other jobs do between them": those in a list of calls, in their order
 unfoldable pub grants : Machine → ℕ → Tables → List Call → List Grant
@@ -49,7 +51,7 @@ grants m j t (c ∷ cs) = grantIn m j t c ++ grants m j (step m t c .tables) cs
 
 -- "A call to set its policy or limits, even to what they were, is in the list only if refused". Clear need not be barred: it makes
 -- the record fresh, and a fresh job is allowed no node until a rebind is granted, which is barred; so all its grants came before. M-103's
--- two calls set limits.
+-- two calls set limits; M-107's drain sets neither.
 unfoldable pub setsPolicy : ℕ → Call → Bool
 setsPolicy j (request i k) = false
 setsPolicy j (release i p) = false
@@ -59,11 +61,13 @@ setsPolicy j (clear i) = false
 setsPolicy j freshTable = false
 setsPolicy j (keepNodes i kept) = eqb i j
 setsPolicy j (setMap i nodes) = eqb i j
+setsPolicy j (drain x room) = false
 
 unfoldable pub isRefused : Answer → Bool
 isRefused (granted n p) = false
 isRefused (released n p) = false
 isRefused done = false
+isRefused (drained moves) = false
 isRefused (refused r) = true
 
 unfoldable pub PolicyKept : Machine → ℕ → Tables → List Call → Type 0

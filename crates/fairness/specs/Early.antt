@@ -41,7 +41,7 @@ pub record GoesOn (m : Machine) (j : ℕ) (g : Grant) (later : Tables) : Type 0 
       orderOf m later j k ≡ tried (nodeCount m) (limitOf (g .before) j) (placeTries r (0 ∷ around (r .len) (suc place) (r .len)))
 
 -- Of every list of calls, from any tables in which job j is in mode 6, that sets its policy by no granted call and does not clear it, as every
--- list of requests and releases: after the list the job goes on from its last grant in it.
+-- list of requests, releases and drains: after the list the job goes on from its last grant in it.
 abbrev pub EarlyGoesOn : Machine → Tables → List Call → Type 0
 EarlyGoesOn m t cs = (j : ℕ) → PolicyKept m j t cs → Each (λ c. c ≢ clear j) cs → recordIn t j .mode ≡ 6
     → (g : Grant) → lastElse none (grants m j t cs) ≡ some g → GoesOn m j g (final m t cs)

@@ -12,7 +12,8 @@ use Rattle.rules.specs.Records.{openRecords, wordsPerJob}
 use Rattle.rules.specs.Maps.{openMaps, identityMaps}
 use Rattle.rules.specs.SearchOrder.{openSearchOrder}
 use Rattle.rules.specs.Calls.{openCalls, Tables, tablesOf, numbers}
-use Rattle.rules.specs.Book.{openBook, Call, request, release, rebind, clear, step, answers, final}
+use Rattle.rules.specs.Drain.{openDrain}
+use Rattle.rules.specs.Book.{openBook, Call, request, release, rebind, clear, drain, step, answers, final}
 use Rattle.rules.specs.Examples.{machineA, installs}
 use Rattle.fairness.specs.Demand3.{Grant, grantBy, grantIn, grants, setsPolicy, isRefused, PolicyKept, isOpen, placeOpen, placeGranted}
 use Rattle.fairness.specs.Demand3.{nodeGranted, row}
@@ -24,7 +25,7 @@ unfolding grantBy grantIn grants setsPolicy isRefused PolicyKept isOpen placeOpe
 openDemand3 = tt
 
 unfoldable pub openAll : Unit {0}
-unfolding openBasics openMachine openMasks openRecords openMaps openSearchOrder openCalls openBook openDemand3
+unfolding openBasics openMachine openMasks openRecords openMaps openSearchOrder openCalls openDrain openBook openDemand3
 openAll = tt
 
 -- the tables that these calls leave, from all pages free and two fresh jobs with map 0 to 3
@@ -86,6 +87,26 @@ clear-ends-grants = tt
 pub clear-may-come : PolicyKept machineA 0 (start 5 0 (0 ∷ 1 ∷ 3 ∷ [])) cleared
 unfolding openAll
 clear-may-come = (λ e. e, (λ e. e, (λ e. e, (λ e. e, (λ e. refl, (λ e. e, (λ e. refl, (λ e. e, (λ e. refl, tt)))))))))
+
+-- ---- M-107: drains between the requests
+
+-- three requests of job 0; each page that it got is moved on before the next
+abbrev pub drained : List Call
+drained = request 0 0 ∷ drain 0 2 ∷ request 0 0 ∷ drain 1 4 ∷ request 0 0 ∷ []
+
+-- "in demand 3 it isn't a granted request", and "Cursors stay": three grants, one at each place; pages 2, 0 and 1 were taken by moves, of which
+-- the book says nothing
+pub drains-grant-nothing : T (
+    same (places (grants machineA 0 (start 5 0 (0 ∷ 1 ∷ 3 ∷ [])) drained)) (1 ∷ 1 ∷ 1 ∷ [])
+    && same (map (λ g. g .page) (grants machineA 0 (start 5 0 (0 ∷ 1 ∷ 3 ∷ [])) drained)) (0 ∷ 3 ∷ 4 ∷ [])
+    && same (final machineA (start 5 0 (0 ∷ 1 ∷ 3 ∷ [])) drained .ledger) (1 ∷ 1 ∷ 0 ∷ 0 ∷ 1 ∷ 0 ∷ []))
+unfolding openAll
+drains-grant-nothing = tt
+
+-- and a drain sets no job's policy
+pub drains-may-come : PolicyKept machineA 0 (start 5 0 (0 ∷ 1 ∷ 3 ∷ [])) drained
+unfolding openAll
+drains-may-come = (λ e. e, (λ e. e, (λ e. e, (λ e. e, (λ e. e, tt)))))
 
 -- ---- why a granted rebind or install of the job is barred
 

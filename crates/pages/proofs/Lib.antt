@@ -4,3 +4,4 @@ pub mod Masked
 pub mod Choice
 pub mod Picked
 pub mod Part
+pub mod Zeros

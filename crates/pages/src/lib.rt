@@ -7,7 +7,7 @@ ghost use Prim.Native.Nat.{ℕ, _+_, _^_, _%_, _≤_, _<_};
 ghost use lib.Dec.{eqb};
 ghost use lib.ListN.{length, getD, drop};
 ghost use Rattle.rules.specs.Basics.{first, isNil};
-ghost use Rattle.pages.specs.FirstZero.{offsetOf, shift, firstZero, mark, hasZero, zeroOrEnd};
+ghost use Rattle.pages.specs.FirstZero.{offsetOf, shift, firstZero, mark, hasZero, zeroOrEnd, zeros};
 ghost use Rattle.pages.specs.Colours.{isFree, freeFrom, freeOf, pickOf, HeldBefore, Clears, HeldUnder};
 use rules::Page;
 use rules::lower;
@@ -62,15 +62,15 @@ fn skip(part: &[u8], from: usize, block: usize) -> usize
     i
 }
 
-// Where a block of 16 bytes ends, or of those that are left.
-fn block_end(len: usize, from: usize) -> usize
-    requires { ⌜ from < len ⌝ }
-    ensures { λ r. ⌜ (from < r) × (r ≤ len) × (r ≤ from + 16) ⌝ }
+// Where a block of so many bytes ends, or of those that are left.
+fn block_end(len: usize, from: usize, size: usize) -> usize
+    requires { ⌜ (from < len) × (0 < size) ⌝ }
+    ensures { λ r. ⌜ (from < r) × (r ≤ len) × (r ≤ from + size) ⌝ }
 {
-    if len - from < 16 {
+    if len - from < size {
         return len;
     }
-    from + 16
+    from + size
 }
 
 // The index of a byte that is 0, else `none`.
@@ -120,7 +120,7 @@ fn first_free(part: &[u8], from: usize) -> Found
     let narrow = skip(part, wide, 16);
     let mut i = narrow;
     while i < part.len() {
-        let end = block_end(part.len(), i);
+        let end = block_end(part.len(), i, 16);
         let at = i + lowest_zero(&part[i..end]);
         if at < end {
             return Found::At(Offset(at));
@@ -139,6 +139,44 @@ pub fn has_free(part: &[u8]) -> bool
         Found::At(_) => true,
         Found::Full => false,
     }
+}
+
+// 1 for a byte that is 0.
+fn one_if_zero(byte: u8) -> u8
+    ensures { λ r. ⌜ r ≡ cond (eqb byte 0) 1 0 ⌝ }
+{
+    if byte != 0 {
+        return 0;
+    }
+    1
+}
+
+// How many bytes of a block are 0: counted in a byte, so that it is compiled to vectors.
+fn zeros_in(block: &[u8]) -> u8
+    requires { ⌜ length (now block) ≤ 128 ⌝ }
+    ensures { λ r. ⌜ r ≡ zeros (now (block .entry)) ⌝ }
+{
+    let mut count: u8 = 0;
+    let mut i = 0;
+    while i < block.len() {
+        count = count + one_if_zero(block[i]);
+        i += 1;
+    }
+    count
+}
+
+// How many pages of the part are free: block by block.
+pub fn count_free(part: &[u8]) -> usize
+    ensures { λ r. ⌜ r ≡ zeros (now (part .entry)) ⌝ }
+{
+    let mut count = 0;
+    let mut i = 0;
+    while i < part.len() {
+        let end = block_end(part.len(), i, 128);
+        count += zeros_in(&part[i..end]) as usize;
+        i = end;
+    }
+    count
 }
 
 // The lowest free page, given the lowest from an index on.

@@ -18,15 +18,15 @@ use Rattle.rules.specs.Records.{recordAt, putRecord, withTurn}
 use Rattle.rules.specs.SearchOrder.{Try, freePages, hasRoom, colourOf, hasColour, pickPage, counted, chosen}
 use Rattle.rules.specs.Maps.{applicationNode}
 use Rattle.rules.specs.Calls.{granted, refused, Tables, tablesOf, outcome, afterWrites, afterStores, afterRemaps, applied, mapOf, countFits, serve}
-use Rattle.rules.proofs.Lists.{same-test, keep-agree, keep-member, from-member, first-keep, sum-take-suc, sum-take-le}
-use Rattle.rules.proofs.Calls.{in-table}
+use Rattle.rules.proofs.Lists.{same-test, keep-agree, keep-member, from-member, first-keep, in-table, sum-take-suc, sum-take-le}
 use Rattle.rules.proofs.Pages.{page-node}
 use Rattle.rules.proofs.Picked.{picked-page}
 use Rattle.pages.specs.FirstZero.{shift, mark}
 use Rattle.pages.specs.Colours.{isOf, pickOf, HeldBefore}
 use Rattle.pages.proofs.Picked.{pick-within}
 use Rattle.pages.proofs.Part.{pick-part}
-use Rattle.placement.specs.Grants.{pageFor, partColour, Chose}
+use Rattle.machine.proofs.Tables.{pages-step}
+use Rattle.placement.specs.Grants.{pageFor, partColour, Chose, Paged}
 
 -- ---- the page of one node
 
@@ -198,3 +198,23 @@ module _ (counts free : List ℕ) (n : ℕ) where
   pub count-fits : getD free n 0 < getD counts n 0 → countFits counts free n ≡ true
   unfolding countFits
   count-fits h = le-leb (getD free n 0 + 1) (getD counts n 0) (omega arith)
+
+-- ---- where a node's pages are
+
+module _ {counts starts ledger : List ℕ} (p : Paged counts starts ledger) (n : ℕ) (l : n < length counts) where
+  -- where the node's pages start and end
+  pub first-is : getD starts n 0 ≡ firstPage counts n
+  first-is = p .begin .at n (omega arith)
+
+  pub end-is : getD starts (n + 1) 0 ≡ firstPage counts n + getD counts n 0
+  end-is = p .begin .at (n + 1) (omega arith) ∙ pages-step counts n
+
+  -- its part is in the page table
+  pub inside : (getD starts n 0 ≤ getD starts (n + 1) 0) × (getD starts (n + 1) 0 ≤ length ledger) × (getD starts (n + 1) 0 ≤ 1048576)
+  inside =
+      let last = node-end counts n in
+      let fits = p .fits in
+      let pages = p .pages in
+      let f = first-is in
+      let e = end-is in
+      (omega arith, omega arith, omega arith)

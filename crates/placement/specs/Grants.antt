@@ -23,6 +23,13 @@ pageBy Full = none
 unfoldable pub pageFor : List ℕ → List ℕ → ℕ → ℕ → Option ℕ
 pageFor counts ledger j n = first (keep (hasColour counts j n) (freePages counts ledger n) ++ freePages counts ledger n)
 
+-- where each node's pages start, and that the page table has them
+pub record Paged (counts starts ledger : List ℕ) : Type 0 where
+  pub few : length counts ≤ mostNodes
+  pub pages : sum counts ≤ 1048576
+  pub begin : Starts counts starts
+  pub fits : sum counts ≤ length ledger
+
 -- What a grant may count on: page counts in order, where each node's pages start, a page table that has them, and one of the jobs.
 pub record Ready (counts starts ledger : List ℕ) (j : ℕ) : Type 0 where
   pub few : length counts ≤ mostNodes

@@ -74,7 +74,7 @@ pub enum Admission {
 }
 
 // "3, 4": the tests that are left for a job with a good map, whose nodes are this set.
-fn admit_mapped(
+pub fn admit_mapped(
     nodes: usize,
     cpus: usize,
     jobs: &[u64],
@@ -364,7 +364,7 @@ fn clear_bytes(bytes: &mut [u8])
 }
 
 // Copies the page counts.
-fn copy_counts(counts: &[u32], free: &mut [u32])
+pub fn copy_counts(counts: &[u32], free: &mut [u32])
     requires { ⌜ length (now free) ≡ length (now counts) ⌝ }
     ensures { λ _. ⌜ now (free .exit) ≡ now (counts .entry) ⌝ }
 {

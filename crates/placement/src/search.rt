@@ -31,7 +31,7 @@ pub enum Chosen {
 }
 
 // Is the node one of the machine's, in the limit, and counted above 0? There is a count for each node.
-fn is_open(free: &[u32], limit: Mask, node: SysNode) -> bool
+pub fn is_open(free: &[u32], limit: Mask, node: SysNode) -> bool
     ensures { λ r. ⌜ r ≡ (ltb (node .0) (length (now (free .entry))) && has (limit .0) (node .0) && counted (now (free .entry)) (node .0)) ⌝ }
 {
     let n = node.0 as usize;

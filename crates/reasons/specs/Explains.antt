@@ -1,25 +1,17 @@
 -- The reasons at a request that has passed its tests (request M-106).
-use Prim.Native.Nat.{ℕ, _≤_, _<_}
+use Prim.Native.Nat.{ℕ, _<_}
 use mathlib.Core.Path.{_≡_}
 use mathlib.Core.List.{List, _++_, map}
 use lib.ListN.{length, drop}
-use Rattle.rules.specs.Basics.{from, sum}
-use Rattle.rules.specs.Masks.{mostNodes}
+use Rattle.rules.specs.Basics.{from}
 use Rattle.rules.specs.Records.{Record}
 use Rattle.rules.specs.SearchOrder.{plan, order, chosen}
 use Rattle.rules.specs.Reasons.{reasonIn, meetsRoom}
 use Rattle.rules.specs.Decisions.{accept, unless, decided, Written, wrote, notWritten}
-use Rattle.machine.specs.Tables.{Starts}
+use Rattle.placement.specs.Grants.{Paged}
 use Rattle.placement.specs.Searches.{Searchable}
 use Rattle.placement.specs.declared.search.Chosen.{Chosen}
 use Rattle.placement.specs.declared.search.Chosen.the-variants.{At, Nothing}
-
--- where each node's pages start, and that the page table has them
-pub record Paged (counts starts ledger : List ℕ) : Type 0 where
-  pub few : length counts ≤ mostNodes
-  pub pages : sum counts ≤ 1048576
-  pub begin : Starts counts starts
-  pub fits : sum counts ≤ length ledger
 
 -- a node that is chosen is one of n
 abbrev pub IsNode : ℕ → Chosen → Type 0

@@ -15,7 +15,7 @@ use lib.Seq.{take-all, take-append-le, length-take-le, take-take, drop-cons, get
 use Rattle.rules.specs.Basics.{all, each, from, between}
 use Rattle.rules.specs.Records.{bytesOf, placesPerJob, policy}
 use Rattle.rules.specs.Decisions.{Decision, refuse, accept, isAccepted, acceptedIn}
-use Rattle.rules.specs.Book.{Call, request, release, install, rebind, clear, freshTable, keepNodes, setMap}
+use Rattle.rules.specs.Book.{Call, request, release, install, rebind, clear, freshTable, keepNodes, setMap, drain}
 use Rattle.rules.specs.Journal.{kindOf}
 use Rattle.rules.proofs.Bytes.{bytes-length, bytes-at}
 use Rattle.rules.proofs.Lists.{both-true, either-true, between-true, all-true, member-from, each-from-suc, all-from-step, all-from-end}
@@ -39,26 +39,29 @@ journal-kind call k = go k
         let n : ℕ = suc (suc (suc (suc (suc (suc k))))) in
         unfold callOf in rw (lt-leb n 5 (omega arith), and-false (leb 1 n))
 
--- the first three of the own kinds are known, and no other
-own-kind : (call : List ℕ) (k : ℕ) → 16 ≤ k → isAccepted (ownCall call (k - 16)) ≡ between 16 18 k
+-- the first four of the own kinds are known, and no other
+own-kind : (call : List ℕ) (k : ℕ) → 16 ≤ k → isAccepted (ownCall call (k - 16)) ≡ between 16 19 k
 unfolding ownCall
 own-kind call k l = go (k - 16) refl
   where
-    three : List (Decision Call)
-    three = accept freshTable ∷ accept (keepNodes (wordAt call 1) (listIn call)) ∷ accept (setMap (wordAt call 1) (listIn call)) ∷ []
+    four : List (Decision Call)
+    four =
+        accept freshTable ∷ accept (keepNodes (wordAt call 1) (listIn call)) ∷ accept (setMap (wordAt call 1) (listIn call))
+        ∷ accept (drain (wordAt call 1) (wordAt call 2)) ∷ []
 
-    go : (d : ℕ) → k - 16 ≡ d → isAccepted (getD three d (refuse 13)) ≡ between 16 18 k
-    go zero e = rw (le-leb 16 k l, le-leb k 18 (omega arith))
-    go (suc zero) e = rw (le-leb 16 k l, le-leb k 18 (omega arith))
-    go (suc (suc zero)) e = rw (le-leb 16 k l, le-leb k 18 (omega arith))
-    go (suc (suc (suc d))) e = rw (lt-leb k 18 (omega arith), and-false (leb 16 k))
+    go : (d : ℕ) → k - 16 ≡ d → isAccepted (getD four d (refuse 13)) ≡ between 16 19 k
+    go zero e = rw (le-leb 16 k l, le-leb k 19 (omega arith))
+    go (suc zero) e = rw (le-leb 16 k l, le-leb k 19 (omega arith))
+    go (suc (suc zero)) e = rw (le-leb 16 k l, le-leb k 19 (omega arith))
+    go (suc (suc (suc zero))) e = rw (le-leb 16 k l, le-leb k 19 (omega arith))
+    go (suc (suc (suc (suc d)))) e = rw (lt-leb k 19 (omega arith), and-false (leb 16 k))
 
--- the kinds that are known: those of the journal, and 16 to 18
-pub known-kind : (call : List ℕ) → isAccepted (callIn call) ≡ (between 1 5 (wordAt call 0) || between 16 18 (wordAt call 0))
+-- the kinds that are known: those of the journal, and 16 to 19
+pub known-kind : (call : List ℕ) → isAccepted (callIn call) ≡ (between 1 5 (wordAt call 0) || between 16 19 (wordAt call 0))
 unfolding callIn
 known-kind call = go (wordAt call 0) (decLe 16 (wordAt call 0))
   where
-    go : (k : ℕ) → Dec (16 ≤ k) → isAccepted (cond (ltb k 16) (callOf (kindOf k) call) (ownCall call (k - 16))) ≡ (between 1 5 k || between 16 18 k)
+    go : (k : ℕ) → Dec (16 ≤ k) → isAccepted (cond (ltb k 16) (callOf (kindOf k) call) (ownCall call (k - 16))) ≡ (between 1 5 k || between 16 19 k)
     go k (yes l) = rw (le-ltb k 16 l, lt-leb k 5 (omega arith), and-false (leb 1 k)) (own-kind call k l)
     go k (no l) = rw (lt-ltb k 16 (omega arith), lt-leb 16 k (omega arith), or-false (between 1 5 k)) (journal-kind call k)
 
@@ -98,17 +101,26 @@ module _ (call : List ℕ) (c : Call) (e : callIn call ≡ accept c) where
   unfolding callIn ownCall
   says-keep s = let q = rw s at e in cc
 
-  -- and what is above it is an administrator's
-  pub says-set : 17 ≤ wordAt call 0 → (wordAt call 0 ≡ 17 → ⊥) → c ≡ setMap (wordAt call 1) (listIn call)
+  -- the word of a known kind is one of these
+  known : (between 1 5 (wordAt call 0) || between 16 19 (wordAt call 0)) ≡ true
+  known = sym (known-kind call) ∙ ap isAccepted e
+
+  -- what is above it, but for 19, is an administrator's
+  pub says-set : 17 ≤ wordAt call 0 → (wordAt call 0 ≡ 19 → ⊥) → (wordAt call 0 ≡ 17 → ⊥) → c ≡ setMap (wordAt call 1) (listIn call)
   unfolding callIn ownCall
-  says-set l n = let q = rw eighteen-is at e in cc
+  says-set l m n = let q = rw eighteen-is at e in cc
     where
       eighteen-is : wordAt call 0 ≡ 18
       eighteen-is =
           ⊎-elim
           (λ b. let k = between-true 1 5 (wordAt call 0) b in absurd (omega arith))
-          (λ b. let k = between-true 16 18 (wordAt call 0) b in omega arith)
-          (either-true (sym (known-kind call) ∙ ap isAccepted e))
+          (λ b. let k = between-true 16 19 (wordAt call 0) b in omega arith)
+          (either-true known)
+
+  -- 19 is a drain
+  pub says-drain : wordAt call 0 ≡ 19 → c ≡ drain (wordAt call 1) (wordAt call 2)
+  unfolding callIn ownCall
+  says-drain s = let q = rw s at e in cc
 
   -- and what is none of these is a fresh table
   pub says-fresh : (wordAt call 0 ≡ 1 → ⊥) → (wordAt call 0 ≡ 2 → ⊥) → (wordAt call 0 ≡ 3 → ⊥) → (wordAt call 0 ≡ 4 → ⊥) → (wordAt call 0 ≡ 5 → ⊥)
@@ -116,14 +128,11 @@ module _ (call : List ℕ) (c : Call) (e : callIn call ≡ accept c) where
   unfolding callIn ownCall
   says-fresh n₁ n₂ n₃ n₄ n₅ l = let q = rw sixteen-is at e in cc
     where
-      known : (between 1 5 (wordAt call 0) || between 16 18 (wordAt call 0)) ≡ true
-      known = sym (known-kind call) ∙ ap isAccepted e
-
       sixteen-is : wordAt call 0 ≡ 16
       sixteen-is =
           ⊎-elim
           (λ b. let k = between-true 1 5 (wordAt call 0) b in absurd (omega arith))
-          (λ b. let k = between-true 16 18 (wordAt call 0) b in omega arith)
+          (λ b. let k = between-true 16 19 (wordAt call 0) b in omega arith)
           (either-true known)
 
 -- a list of so many places has that length

@@ -9,7 +9,7 @@ use Rattle.rules.specs.Basics.{all, each, from}
 use Rattle.rules.specs.Records.{bytesOf, placesPerJob, policy}
 use Rattle.rules.specs.Decisions.{Decision, refuse, accept, isAccepted, acceptedIn}
 use Rattle.rules.specs.Calls.{Answer, numbers}
-use Rattle.rules.specs.Book.{Call, request, release, install, rebind, clear, freshTable, keepNodes, setMap}
+use Rattle.rules.specs.Book.{Call, request, release, install, rebind, clear, freshTable, keepNodes, setMap, drain}
 use Rattle.rules.specs.Journal.{Kind, request′, release′, rebind′, install′, clear′, unknownKind, kindOf}
 
 -- a call is sixteen words
@@ -40,13 +40,16 @@ callOf clear′ call = accept (clear (wordAt call 1))
 callOf unknownKind call = refuse 13
 
 -- the kinds from 16 on, which the journal has not: 16 is M-100's fresh table, of which no other word is read; 17 and 18 are M-103's: the
--- nodes that the job of word 1 keeps, and its map
+-- nodes that the job of word 1 keeps, and its map; 19 is M-107's drain of the node of word 1 with the room of word 2
 abbrev pub ownKinds : ℕ
 ownKinds = 16
 
 unfoldable pub ownCall : List ℕ → ℕ → Decision Call
 ownCall call k =
-    getD (accept freshTable ∷ accept (keepNodes (wordAt call 1) (listIn call)) ∷ accept (setMap (wordAt call 1) (listIn call)) ∷ []) k (refuse 13)
+    getD
+    (accept freshTable ∷ accept (keepNodes (wordAt call 1) (listIn call)) ∷ accept (setMap (wordAt call 1) (listIn call))
+    ∷ accept (drain (wordAt call 1) (wordAt call 2)) ∷ [])
+    k (refuse 13)
 
 -- the call that sixteen words say
 unfoldable pub callIn : List ℕ → Decision Call

@@ -12,6 +12,7 @@ use Rattle.rules.specs.Maps.{openMaps, bytesFor}
 use Rattle.rules.specs.SearchOrder.{openSearchOrder}
 use Rattle.rules.specs.Decisions.{refuse, accept}
 use Rattle.rules.specs.Calls.{openCalls, Tables, tablesOf}
+use Rattle.rules.specs.Drain.{openDrain}
 use Rattle.rules.specs.Book.{openBook, request, release, rebind}
 use Rattle.rules.specs.Examples.{machineA, start, installs}
 use Rattle.replay.specs.Encoding.{openEncoding, callsIn}
@@ -57,10 +58,10 @@ story-run = refl
 abbrev used : Tables
 used = tablesOf (1 ∷ 255 ∷ 0 ∷ 0 ∷ 9 ∷ 1 ∷ 7 ∷ []) (replicate 6 0) (0 ∷ 9 ∷ 9 ∷ 1 ∷ []) (replicate 64 0)
 
--- kind 16 is a fresh table, whatever its other words are, and whatever the maps hold; kind 19 is unknown
+-- kind 16 is a fresh table, whatever its other words are, and whatever the maps hold; kind 20 is unknown
 fresh-run : (onReplay machineA used (call 16 99 1 2 3 4 5) (7 ∷ 7 ∷ [])
     ≡ run (accept 1) (tablesOf (replicate 6 0 ++ (7 ∷ [])) (replicate 6 0) (machineA .pageCounts) (used .maps)) (no 0 ∷ 7 ∷ []))
-    × (onReplay machineA used (call 19 0 0 0 0 0 0) (7 ∷ 7 ∷ []) ≡ run (refuse 13) used (7 ∷ 7 ∷ []))
+    × (onReplay machineA used (call 20 0 0 0 0 0 0) (7 ∷ 7 ∷ []) ≡ run (refuse 13) used (7 ∷ 7 ∷ []))
 unfolding openBasics openMachine openMasks openRecords openMaps openSearchOrder openCalls openBook openEncoding openReplay
 fresh-run = (refl, refl)
 
@@ -88,3 +89,15 @@ map-run : onReplay machineA (start machineA) mapping (replicate 5 7)
     (no 0 ∷ no 15 ∷ no 15 ∷ no 15 ∷ no 0 ∷ [])
 unfolding openBasics openMachine openMasks openRecords openMaps openSearchOrder openCalls openBook openEncoding openReplay
 map-run = refl
+
+-- M-107: kind 19 drains the node of word 1 with the room of word 2, and ignores the other words; its answer has FF for the node and the number
+-- of moves where a page would stand. Two pages of node 0 go to node 1: room for three numbers is 11, and there is no node 4
+abbrev draining : List ℕ
+draining = call 3 0 15 0 0 0 0 ++ asking ++ asking ++ call 19 0 3 0 0 0 0 ++ call 19 4 9 9 9 9 9 ++ call 19 0 4 7 7 7 7
+
+drain-run : onReplay machineA (start machineA) draining (replicate 6 7)
+    ≡ run (accept 6)
+    (tablesOf (0 ∷ 0 ∷ 1 ∷ 1 ∷ 0 ∷ 0 ∷ []) (0 ∷ 0 ∷ 15 ∷ 0 ∷ 0 ∷ 0 ∷ []) (2 ∷ 0 ∷ 0 ∷ 2 ∷ []) (start machineA .maps))
+    (no 0 ∷ page 0 0 ∷ page 0 1 ∷ no 11 ∷ no 6 ∷ page 255 2 ∷ [])
+unfolding openBasics openMachine openMasks openRecords openMaps openSearchOrder openCalls openDrain openBook openEncoding openReplay
+drain-run = refl

@@ -33,7 +33,7 @@ fn call_ok(call: &[u64]) -> bool
     ensures { λ r. ⌜ r ≡ isAccepted (callIn (now (call .entry))) ⌝ }
 {
     let kind = call[0];
-    ((1 <= kind) & (kind <= 5)) | ((16 <= kind) & (kind <= 18))
+    ((1 <= kind) & (kind <= 5)) | ((16 <= kind) & (kind <= 19))
 }
 
 // Is every call of the list of a known kind, and none cut short?
@@ -82,7 +82,7 @@ fn list_in(call: &[u64], list: &mut [u8; MAP_BYTES])
 // A call that sets a map, of kind 17 or 18; its list is put beside it.
 fn map_call(call: &[u64], list: &mut [u8; MAP_BYTES]) -> Call
     requires { ⌜ (length (now call) ≡ callWords) × (length (now list) ≡ mapSize) ⌝ }
-    ensures says { λ r. ⌜ ((places : List ℕ) (c : LawCall) → 17 ≤ wordAt (now (call .entry)) 0 → callIn (now (call .entry)) ≡ accept c → Says r places (now (list .exit)) c) ⌝ }
+    ensures says { λ r. ⌜ ((places : List ℕ) (c : LawCall) → 17 ≤ wordAt (now (call .entry)) 0 → (wordAt (now (call .entry)) 0 ≡ 19 → ⊥) → callIn (now (call .entry)) ≡ accept c → Says r places (now (list .exit)) c) ⌝ }
     ensures long { λ _. ⌜ length (now (list .exit)) ≡ mapSize ⌝ }
 {
     list_in(call, list);
@@ -114,6 +114,16 @@ pub fn read_call(call: &[u64], list: &mut [u8; MAP_BYTES]) -> Entry
         return Entry {
             call: said,
             places: places,
+        };
+    }
+    if kind == 19 {
+        let said = Call::Drain {
+            node: job,
+            room: call[2] as usize,
+        };
+        return Entry {
+            call: said,
+            places: [0; PLACES_PER_JOB],
         };
     }
     if 17 <= kind {

@@ -1,4 +1,4 @@
--- Each example of the nine tables is right. (Files are checked by name, and what they use first: so a rule that breaks an example is refused
+-- Each example of the ten tables is right. (Files are checked by name, and what they use first: so a rule that breaks an example is refused
 -- at the table, which computes, before any proof.)
 -- Assumes nothing.
 use mathlib.Core.Path.{_≡_, refl}
@@ -14,6 +14,7 @@ use Rattle.rules.specs.ClosingExamples as closing
 use Rattle.rules.specs.NoteExamples as notes
 use Rattle.rules.specs.ColourExamples as colours
 use Rattle.rules.specs.ReasonExamples as reasons
+use Rattle.rules.specs.DrainExamples as drains
 use Rattle.rules.proofs.Lists.{_∈_, all-true}
 
 -- a computed test that holds
@@ -56,3 +57,7 @@ colours-right h = all-true colours.right (is-true _ colours.all-right) h
 -- M-106 by examples: modes 0 to 3, modes 4 to 6, counts that do not match, refusals
 pub reasons-right : {e : reasons.Example} → e ∈ (reasons.byNear ++ reasons.byPlaces ++ reasons.byCounts ++ reasons.refusals) → reasons.right e ≡ true
 reasons-right h = all-true reasons.right (is-true _ reasons.all-right) h
+
+-- M-107 by examples: where pages go, colours, 17, the order of the tests and the output, lists of calls
+pub drains-right : {e : drains.Example} → e ∈ (drains.nearest ++ drains.colours ++ drains.nowhere ++ drains.tested ++ drains.lists) → drains.right e ≡ true
+drains-right h = all-true drains.right (is-true _ drains.all-right) h

@@ -1,6 +1,6 @@
 -- M-100: "If the counts match the page table at entry, every call answers as before and they match afterwards."
 -- Assumes nothing.
-use Prim.Native.Nat.{ℕ, _+_, _-_, _<_}
+use Prim.Native.Nat.{ℕ, _+_, _-_, _*_, _<_}
 use mathlib.Core.Path.{_≡_, refl, sym, ap, ap₂, subst, _∙_}
 use mathlib.Core.Logic.{_↔_, _≢_}
 use mathlib.Core.Bool.{Bool, true, false, _&&_, true≢false}
@@ -8,11 +8,12 @@ use mathlib.Core.Option.{Option, none, some}
 use mathlib.Core.List.{List, [], _∷_, _++_}
 use native.Mathlib.Omega.{arith}
 use borrow.Author.Tests.{eq-eqb, le-leb, leb-true}
+use lib.Dec.{leb, ltb}
 use lib.ListN.{length, getD, drop, set, replicate}
-use Rattle.rules.specs.Basics.{sum}
-use Rattle.rules.specs.Machine.{Machine, nodeCount, machineOk, pageTableOk, nodeOfPage}
+use Rattle.rules.specs.Basics.{sum, same}
+use Rattle.rules.specs.Machine.{Machine, nodeCount, distancesOk, machineOk, pageTableOk, nodeOfPage}
 use Rattle.rules.specs.Records.{Record, recordAt, wellFormed}
-use Rattle.rules.specs.SearchOrder.{Try, hasRoom, pickPage, counted, chosen}
+use Rattle.rules.specs.SearchOrder.{Try, hasRoom, freeCounts, pickPage, counted, chosen}
 use Rattle.rules.specs.Decisions.{Decision, refuse, accept, unless, then}
 use Rattle.rules.specs.Calls.{Answer, granted, done, refused, Tables, tablesOf, Change, afterWrites, afterStores, afterRemaps}
 use Rattle.rules.specs.Calls.{Outcome, outcome, applied}
@@ -20,17 +21,20 @@ use Rattle.rules.specs.Calls.{granting, freeing, freeingAll}
 use Rattle.rules.specs.Calls.{isJob, isCpu, isMapped, freeOk, jobsOk, requestTablesOk, freshTablesOk, releaseTablesOk, holds, countFits, admitted}
 use Rattle.rules.specs.Calls.{orderOf, serve, requestDecision, releaseDecision, freshDecision, installDecision, rebindDecision, clearDecision}
 use Rattle.rules.specs.Calls.{keepDecision, setMapDecision, onFresh}
-use Rattle.rules.specs.Book.{Call, request, release, install, rebind, clear, freshTable, keepNodes, setMap, decision, step, answers, final}
-use Rattle.rules.specs.FreeCounts.{freeCounts, Matches, recounted, firstWithRoom, serveUncounted, requestUncounted, pagesInOrder}
-use Rattle.rules.specs.FreeCounts.{releaseUncounted, freshUncounted, decisionUncounted, stepUncounted, answersUncounted, finalUncounted}
-use Rattle.rules.proofs.Lists.{_∈_, first-keep, keep-first, entry-same}
+use Rattle.rules.specs.Drain.{Move, heldPages, moves, draining, drainTablesOk, countsMatch, movesWithin, drainMoves, drainDecision}
+use Rattle.rules.specs.Book.{Call, request, release, install, rebind, clear, freshTable, keepNodes, setMap, drain, decision, step, answers, final}
+use Rattle.rules.specs.FreeCounts.{Matches, recounted, firstWithRoom, serveUncounted, requestUncounted, pagesInOrder}
+use Rattle.rules.specs.FreeCounts.{releaseUncounted, freshUncounted, drainUncounted, decisionUncounted, stepUncounted, answersUncounted, finalUncounted}
+use Rattle.rules.proofs.Lists.{_∈_, both-true, first-keep, keep-first, entry-same, in-table, same-self}
 use Rattle.rules.proofs.Admission.{FreePage, no-room, Passes, Searched, nowhere, wrongly, served, searched, refused-8, refused-14}
 use Rattle.rules.proofs.Pages.{PageOf, node-page}
-use Rattle.rules.proofs.Calls.{in-table, installs, rebinds, clears, keepings, setMaps, held-page, Granted, release-14}
+use Rattle.rules.proofs.Calls.{installs, rebinds, clears, keepings, setMaps, held-page, Granted, release-14}
 use Rattle.rules.proofs.Picked.{picked-page}
 use Rattle.rules.proofs.InOrder.{PagesInOrder, pages-in-order}
 use Rattle.rules.proofs.FreeCounts.{free-counts-length, counted-room, chosen-with-room, count-granted, count-released, count-within}
 use Rattle.rules.proofs.FreeCounts.{zeros-written, counts-written, all-free}
+use Rattle.rules.proofs.Decisions.{passed, went-on}
+use Rattle.rules.proofs.Moves.{held-queue, moves-match}
 
 -- a request's tests, and then the search
 pub in-chain : {A B : Type 0} (a b c d f : Bool) (x : A) (go : A → Decision B)
@@ -42,6 +46,23 @@ in-chain true true false d f x go = refl
 in-chain true true true false f x go = refl
 in-chain true true true true false x go = refl
 in-chain true true true true true x go = refl
+
+-- a drain's tests, and then what it does
+drain-chain : {A B : Type 0} (a b : Bool) (d : Decision A) (go : A → Decision B)
+    → then (unless a 1 (unless b 6 (unless true 14 d))) go ≡ unless a 1 (unless b 6 (then d go))
+drain-chain false b d go = refl
+drain-chain true false d go = refl
+drain-chain true true d go = refl
+
+-- the moves of a drain that has room for them
+within-moves : (counts distances : List ℕ) (x : ℕ) (t : Tables) (room : ℕ) {vs : List Move} → movesWithin counts distances x t room ≡ accept vs
+    → moves counts distances x t (heldPages counts (t .ledger) x) ≡ accept vs
+unfolding movesWithin
+within-moves counts distances x t room {vs} e =
+    let a = went-on (moves counts distances x t (heldPages counts (t .ledger) x)) _ e in
+    let b = passed (leb (2 * length (a .0)) room) 11 _ (a .2) in
+    let same : a .0 ≡ vs = cc in
+    a .1 ∙ ap accept same
 
 module _ (counts : List ℕ) (t : Tables) (a : Matches counts t) where
   -- a decision of the rules that does what one of the law without counts does
@@ -153,6 +174,32 @@ module _ (counts : List ℕ) (t : Tables) (a : Matches counts t) where
           counts-written counts (t .free) (o .one-each)
           ∙ sym (ap (freeCounts counts) (zeros-written (t .ledger) (sum counts) (o .fits)) ∙ all-free counts (drop (sum counts) (t .ledger)))
 
+  -- ---- the drain
+
+  drain-same : (distances : List ℕ) (x room : ℕ) → Same (drainDecision counts distances x t room) (drainUncounted counts distances x t room)
+  unfolding drainDecision drainMoves drainUncounted drainTablesOk countsMatch
+  drain-same distances x room =
+      let go : List Move → Decision Change = λ vs. accept (draining x t vs) in
+      let jobs = jobsOk (length (t .records)) (length (t .maps)) in
+      let tables = pagesInOrder counts t && distancesOk (length counts) distances && jobs in
+      let matching : same (t .free) (freeCounts counts (t .ledger)) ≡ true = rw a (same-self (freeCounts counts (t .ledger))) in
+      rw (fresh-tested, matching, drain-chain tables (ltb x (length counts)) (movesWithin counts distances x t room) go)
+      (same-unless tables 1 _ _
+      (λ ok. same-unless (ltb x (length counts)) 6 _ _
+      (λ node. moving (movesWithin counts distances x t room) refl (pages-fit (pagesInOrder counts t) (distancesOk (length counts) distances) jobs ok))))
+    where
+      pages-fit : (p d j : Bool) → (p && d && j) ≡ true → p ≡ true
+      pages-fit p d j h = both-true {a = p} (both-true {a = p && d} h .0) .0
+
+      moving : (d : Decision (List Move)) → movesWithin counts distances x t room ≡ d → pagesInOrder counts t ≡ true
+          → Same (then d (λ vs. accept (draining x t vs))) (then d (λ vs. accept (draining x t vs)))
+      moving (refuse r) e ok = same-refusal r
+      moving (accept vs) e ok =
+          let fits = pages-in-order counts _ _ (fresh-tested ∙ ok) .fits in
+          same-change (draining x t vs)
+          (moves-match counts distances x t (heldPages counts (t .ledger) x) vs (held-queue counts (t .ledger) x fits)
+          (within-moves counts distances x t room e) a)
+
 -- ---- every call
 
 request-same : (m : Machine) (t : Tables) (a : Matches (m .pageCounts) t) (j k : ℕ)
@@ -191,6 +238,7 @@ as-before m t (keepNodes j kept) a =
     same-stored (m .pageCounts) t a (keepDecision (nodeCount m) t j kept) (λ x e. rw (keepings (nodeCount m) t j kept e .1) (refl, refl))
 as-before m t (setMap j nodes) a =
     same-stored (m .pageCounts) t a (setMapDecision (nodeCount m) t j nodes) (λ x e. rw (setMaps (nodeCount m) t j nodes e .1) (refl, refl))
+as-before m t (drain x room) a = drain-same (m .pageCounts) t a (m .distances) x room
 
 -- "and they match afterwards"
 pub matches-kept : (m : Machine) (t : Tables) (c : Call) → Matches (m .pageCounts) t → Matches (m .pageCounts) (step m t c .tables)

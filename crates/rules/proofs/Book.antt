@@ -48,7 +48,8 @@ past-pages-kept-all m t (c ∷ cs) = past-pages-kept-all m (step m t c .tables) 
 
 -- ---- the ledger goes by what is written
 
-writes-append : (ledger : List ℕ) (vs ws : List Write) → afterWrites ledger (vs ++ ws) ≡ afterWrites (afterWrites ledger vs) ws
+-- what two lists of writes leave is what the second leaves after the first
+pub writes-append : (ledger : List ℕ) (vs ws : List Write) → afterWrites ledger (vs ++ ws) ≡ afterWrites (afterWrites ledger vs) ws
 unfolding afterWrites
 writes-append ledger [] ws = refl
 writes-append ledger (v ∷ vs) ws = writes-append (set ledger (v .at) (v .value)) vs ws

@@ -1,17 +1,17 @@
 -- What the calls promise: refusals change nothing; what a grant and a release say of page, node and ledger.
 -- Assumes nothing.
-use Prim.Native.Nat.{ℕ, zero, suc, _+_, _≤_, _<_}
+use Prim.Native.Nat.{ℕ, _+_, _*_, _≤_, _<_, zero, suc}
 use mathlib.Core.Path.{_≡_, refl, sym, ap, subst, _∙_}
 use mathlib.Core.Logic.{_↔_, _≢_, ⊎-elim}
 use mathlib.Core.Bool.{Bool, true, false, not, _&&_, true≢false}
 use mathlib.Core.Option.{Option, none, some}
 use mathlib.Core.List.{List, [], _∷_, map, List·Memᴰ·append-cases}
 use native.Mathlib.Omega.{arith}
-use borrow.Author.Tests.{eqb-true, ltb-true, ltb-false, leb-false, lt-leb}
+use borrow.Author.Tests.{eqb-true, ltb-true, ltb-false, leb-true, leb-false, lt-leb}
 use lib.ListN.{length, getD, drop, set, length-set}
 use lib.Seq.{length-sets, drop-set-lt}
-use lib.Dec.{ltb}
-use Rattle.rules.specs.Basics.{Each, from, sum}
+use lib.Dec.{leb, ltb}
+use Rattle.rules.specs.Basics.{Each, each, from, sum}
 use Rattle.rules.specs.Machine.{Machine, nodeCount, nodeOfPage, nodeOfCpu}
 use Rattle.rules.specs.Masks.{has, isEmpty, below}
 use Rattle.rules.specs.Records.{Record, Policy, Mode, default, preferred, bind, interleave, list, ring, early, unknownMode}
@@ -25,13 +25,15 @@ use Rattle.rules.specs.Calls.{granted, released, refused, Tables, Write,
 use Rattle.rules.specs.Calls.{applied, granting, freeing, freeingAll, storing, mapping, mapOf, isJob, isMapped, freshTablesOk, releaseTablesOk}
 use Rattle.rules.specs.Calls.{recordTablesOk, mappedTablesOk, policyKnown, installFits, rebindFits, holds, countFits, limitOf, orderOf}
 use Rattle.rules.specs.Calls.{releaseDecision, freshDecision, installDecision, rebindDecision, clearDecision, keepDecision, setMapDecision}
-use Rattle.rules.specs.Book.{Call, request, release, install, rebind, clear, freshTable, keepNodes, setMap, decision, step}
+use Rattle.rules.specs.Drain.{Move, heldPages, moved, moves, moveWrites, draining, drainTablesOk, countsMatch, movesWithin, drainMoves, drainDecision}
+use Rattle.rules.specs.Book.{Call, request, release, install, rebind, clear, freshTable, keepNodes, setMap, drain, decision, step}
 use Rattle.rules.specs.Ledger.{writesOf}
 use Rattle.rules.proofs.Admission.{Passes, accepted}
-use Rattle.rules.proofs.InOrder.{SameLengths, pages-in-order}
-use Rattle.rules.proofs.Decisions.{not-accepted, passed, passed-to}
-use Rattle.rules.proofs.Lists.{_∈_, both-true, keep-member, map-member, FirstOf, first-keep, first-member}
+use Rattle.rules.proofs.InOrder.{SameLengths, pages-in-order, drain-fresh-ok}
+use Rattle.rules.proofs.Decisions.{not-accepted, passed, passed-to, went-on}
+use Rattle.rules.proofs.Lists.{_∈_, both-true, keep-member, map-member, FirstOf, first-keep, first-member, in-table}
 use Rattle.rules.proofs.Masks.{both-has}
+use Rattle.rules.proofs.Moves.{Queue, held-queue, queue-first, queue-rest, move-is, moves-cons, moves-nil, new-in-table, moved-length}
 use Rattle.rules.proofs.Near.{near-allowed}
 use Rattle.rules.proofs.Pages.{page-lt, page-node}
 use Rattle.rules.proofs.Picked.{PickedPage, picked-page}
@@ -159,12 +161,49 @@ freshens counts t {x} e =
     let same : x ≡ freeingAll counts = cc in
     (a .0, same)
 
--- What an accepted call is: a request that is granted, a release of a held page, a fresh table, or a call that stores a record or sets a map.
+-- M-107: a drain tests 1, 6, 14, 17, 11
+pub record DrainPasses (counts distances : List ℕ) (x : ℕ) (t : Tables) (room : ℕ) (vs : List Move) : Type 0 where
+  pub tablesOk : drainTablesOk counts distances t ≡ true
+  pub node : x < length counts
+  pub matching : countsMatch counts t ≡ true
+  pub moved-so : moves counts distances x t (heldPages counts (t .ledger) x) ≡ accept vs
+  pub has-room : 2 * length vs ≤ room
+
+-- the moves of a drain that passes its tests
+pub drain-moves : (counts distances : List ℕ) (x : ℕ) (t : Tables) (room : ℕ) {vs : List Move} → drainMoves counts distances x t room ≡ accept vs
+    → DrainPasses counts distances x t room vs
+unfolding drainMoves movesWithin
+drain-moves counts distances x t room {vs} e =
+    let a = passed (drainTablesOk counts distances t) 1 _ e in
+    let b = passed (ltb x (length counts)) 6 _ (a .1) in
+    let c = passed (countsMatch counts t) 14 _ (b .1) in
+    let d = went-on (moves counts distances x t (heldPages counts (t .ledger) x)) _ (c .1) in
+    let f = passed (leb (2 * length (d .0)) room) 11 _ (d .2) in
+    let same : d .0 ≡ vs = cc in
+    record {
+      tablesOk = a .0;
+      node = ltb-true x (length counts) (b .0);
+      matching = c .0;
+      moved-so = d .1 ∙ ap accept same;
+      has-room = rw (sym same) (leb-true (2 * length (d .0)) room (f .0));
+    }
+
+pub drains-so : (counts distances : List ℕ) (x : ℕ) (t : Tables) (room : ℕ) {c : Change} → drainDecision counts distances x t room ≡ accept c
+    → (vs : List Move) × DrainPasses counts distances x t room vs × (c ≡ draining x t vs)
+unfolding drainDecision
+drains-so counts distances x t room {c} e =
+    let a = went-on (drainMoves counts distances x t room) _ e in
+    let same : c ≡ draining x t (a .0) = cc in
+    (a .0, drain-moves counts distances x t room (a .1), same)
+
+-- What an accepted call is: a request that is granted, a release of a held page, a fresh table, a drain, or a call that stores a record or sets
+-- a map.
 pub data Accepted (m : Machine) (t : Tables) (c : Call) (x : Change) : Type 0 where
   grants : (j k : ℕ) (s : Try) → c ≡ request j k → Passes m t j k → chosen (t .free) (orderOf m t j k) ≡ some s
       → hasRoom (m .pageCounts) (t .ledger) (s .node) ≡ true → x ≡ granting (m .pageCounts) t j s → Accepted m t c x
   frees : (j p : ℕ) → c ≡ release j p → ReleasePasses (m .pageCounts) t j p → x ≡ freeing (m .pageCounts) t j p → Accepted m t c x
   freesAll : freshTablesOk (m .pageCounts) (length (t .ledger)) (length (t .free)) ≡ true → x ≡ freeingAll (m .pageCounts) → Accepted m t c x
+  drains : (y room : ℕ) (vs : List Move) → DrainPasses (m .pageCounts) (m .distances) y t room vs → x ≡ draining y t vs → Accepted m t c x
   stores : (j : ℕ) (r : Record) → x ≡ storing j r → Accepted m t c x
   maps : (j : ℕ) (nodes : List ℕ) → x ≡ mapping j nodes → Accepted m t c x
 
@@ -179,6 +218,7 @@ accepted-is m t (clear j) e = stores j _ (clears (nodeCount m) (t .records) j e 
 accepted-is m t freshTable e = let a = freshens (m .pageCounts) t e in freesAll (a .0) (a .1)
 accepted-is m t (keepNodes j kept) e = maps j _ (keepings (nodeCount m) t j kept e .1)
 accepted-is m t (setMap j nodes) e = maps j nodes (setMaps (nodeCount m) t j nodes e .1)
+accepted-is m t (drain y room) e = let a = drains-so (m .pageCounts) (m .distances) y t room e in drains y room (a .0) (a .1) (a .2)
 
 -- ---- refusals
 
@@ -187,6 +227,7 @@ pub not-refused : {m : Machine} {t : Tables} {c : Call} {x : Change} → Accepte
 not-refused (grants j k s a b d h e) r f = let z : _≡_ {A = ℕ} 0 1 = cc in omega arith
 not-refused (frees j p a b e) r f = let z : _≡_ {A = ℕ} 0 1 = cc in omega arith
 not-refused (freesAll a e) r f = let z : _≡_ {A = ℕ} 0 1 = cc in omega arith
+not-refused (drains y room vs a e) r f = let z : _≡_ {A = ℕ} 0 1 = cc in omega arith
 not-refused (stores j x e) r f = let z : _≡_ {A = ℕ} 0 1 = cc in omega arith
 not-refused (maps j x e) r f = let z : _≡_ {A = ℕ} 0 1 = cc in omega arith
 
@@ -359,6 +400,7 @@ granted-by m t c {a = n} {p} e = go (decision m t c) refl e
         (j, k, q, record { node = s .node; named = name; grant = subst (Granted m t j k (s .node)) page (serves m t j k a b h) })
     by (frees j q a b d) e = absurd (let z : _≡_ {A = ℕ} 0 1 = cc in omega arith)
     by (freesAll a d) e = absurd (let z : _≡_ {A = ℕ} 0 1 = cc in omega arith)
+    by (drains y room vs a d) e = absurd (let z : _≡_ {A = ℕ} 0 1 = cc in omega arith)
     by (stores j r d) e = absurd (let z : _≡_ {A = ℕ} 0 1 = cc in omega arith)
     by (maps j r d) e = absurd (let z : _≡_ {A = ℕ} 0 1 = cc in omega arith)
 
@@ -418,6 +460,7 @@ released-by m t c {n} {q} e = go (decision m t c) refl e
     by : {x : Change} → Accepted m t c x → x .answer ≡ released n q → (j : ℕ) × (p : ℕ) × (c ≡ release j p) × Released m t j p n q
     by (grants j k s a b d h f) e = absurd (let z : _≡_ {A = ℕ} 0 1 = cc in omega arith)
     by (freesAll a d) e = absurd (let z : _≡_ {A = ℕ} 0 1 = cc in omega arith)
+    by (drains y room vs a d) e = absurd (let z : _≡_ {A = ℕ} 0 1 = cc in omega arith)
     by (frees j p a b d) e =
         let page : p ≡ q = cc in
         let node : applicationNode (mapOf t j) (nodeOfPage (m .pageCounts) p) ≡ n = cc in
@@ -483,12 +526,6 @@ fresh-refused m t r = go (freshTablesOk (m .pageCounts) (length (t .ledger)) (le
 
 -- ---- what a call writes
 
--- an entry that is not what stands for none is in the table
-pub in-table : (ledger : List ℕ) (p d v : ℕ) → getD ledger p d ≡ v → v ≢ d → p < length ledger
-in-table [] p d v e n = absurd (n (sym e))
-in-table (x ∷ xs) zero d v e n = omega arith
-in-table (x ∷ xs) (suc p) d v e n = omega (arith, in-table xs p d v e n)
-
 -- A write at a page of the machine that is in the table.
 pub record AtPage (counts ledger : List ℕ) (w : Write) : Type 0 where
   pub ofMachine : w .at < sum counts
@@ -501,6 +538,29 @@ unfolding from Each
 zeros-from counts ledger a zero h fits = tt
 zeros-from counts ledger a (suc k) h fits =
     (record { ofMachine = omega arith; inTable = omega arith }, zeros-from counts ledger (suc a) k (omega arith) fits)
+
+-- M-107: the page that is left and the page that is taken are such
+moves-at-pages : (counts distances : List ℕ) (x : ℕ) (t : Tables) (table ps : List ℕ) (vs : List Move) → length table ≡ length (t .ledger)
+    → Queue counts (t .ledger) x ps → moves counts distances x t ps ≡ accept vs → Each (AtPage counts table) (each moveWrites vs)
+unfolding each Each
+moves-at-pages counts distances x t table [] vs long q e = rw (moves-nil counts distances x t e) tt
+moves-at-pages counts distances x t table (p ∷ ps) vs long q e =
+    let c = moves-cons counts distances x t p ps e in
+    let m = move-is counts distances t x p (c .3) in
+    let h = queue-first q m in
+    rw (c .2) (
+      record { ofMachine = rw (m .old) (page-lt (h .ofNode)); inTable = rw (m .old, long) (h .inTable) },
+      (
+        record { ofMachine = page-lt (m .picked .page .ofNode); inTable = rw long (new-in-table h m) },
+        moves-at-pages counts distances x (moved x t (c .0)) table ps (c .1) (long ∙ sym (moved-length h m)) (queue-rest q m) (c .4),
+      ),
+    )
+
+drain-at-pages : (counts distances : List ℕ) (x : ℕ) (t : Tables) (room : ℕ) (vs : List Move) → DrainPasses counts distances x t room vs
+    → Each (AtPage counts (t .ledger)) (each moveWrites vs)
+drain-at-pages counts distances x t room vs a =
+    let fits = pages-in-order counts _ _ (drain-fresh-ok counts distances t (a .tablesOk)) .fits in
+    moves-at-pages counts distances x t (t .ledger) (heldPages counts (t .ledger) x) vs refl (held-queue counts (t .ledger) x fits) (a .moved-so)
 
 -- a call writes only at pages of the machine, and in the table
 pub writes-at-pages : (m : Machine) (t : Tables) (c : Call) → Each (AtPage (m .pageCounts) (t .ledger)) (writesOf (decision m t c))
@@ -515,6 +575,7 @@ writes-at-pages m t c = go (decision m t c) refl
     by (frees j p a b d) =
         let h = held-page (m .pageCounts) (t .ledger) j p (b .held) in
         rw d (record { ofMachine = h .0; inTable = in-table (t .ledger) p 0 (j + 1) (h .1) (λ z. omega arith) }, tt)
+    by (drains y room vs a d) = rw d (drain-at-pages (m .pageCounts) (m .distances) y t room vs a)
     by (stores j r d) = rw d tt
     by (maps j r d) = rw d tt
 

@@ -13,9 +13,9 @@ use lib.ListN.{length, getD, drop, set, replicate, length-set, length-map}
 use lib.Seq.{getD-set-same, getD-set-other, ext-getD}
 use Rattle.rules.specs.Basics.{keep, first, isNil, count, from, sum}
 use Rattle.rules.specs.Machine.{firstPage, pagesOf}
-use Rattle.rules.specs.SearchOrder.{Try, freePages, hasRoom, counted, chosen}
+use Rattle.rules.specs.SearchOrder.{Try, freePages, hasRoom, freeCounts, counted, chosen}
 use Rattle.rules.specs.Calls.{write, afterWrites}
-use Rattle.rules.specs.FreeCounts.{freeCounts, firstWithRoom}
+use Rattle.rules.specs.FreeCounts.{firstWithRoom}
 use Rattle.rules.proofs.Lists.{keep-same, length-from, entry-map-from}
 use Rattle.rules.proofs.Admission.{isFree}
 use Rattle.rules.proofs.Pages.{PageOf, page-lt, page-node, page-node-lt}
@@ -74,7 +74,7 @@ chosen-with-room counts ledger ts = ap first (keep-same _ _ ts (λ t. counted-ro
 
 -- ---- two page tables that differ at one page
 
-length-keep : {A : Type 0} (p : A → Bool) (xs : List A) → length (keep p xs) ≡ count p xs
+pub length-keep : {A : Type 0} (p : A → Bool) (xs : List A) → length (keep p xs) ≡ count p xs
 unfolding keep count
 length-keep p [] = refl
 length-keep p (x ∷ xs) = go (p x) (length-keep p xs)
@@ -153,7 +153,7 @@ few-of P a (suc k) = go (P a) (few-of P (suc a) k)
     go false ih = omega arith
 
 -- a node has no more free pages than pages
-count-most : (counts ledger : List ℕ) (n : ℕ) → freeCount counts ledger n ≤ getD counts n 0
+pub count-most : (counts ledger : List ℕ) (n : ℕ) → freeCount counts ledger n ≤ getD counts n 0
 unfolding freePages pagesOf
 count-most counts ledger n =
     let a = length-keep (isFree ledger) (pagesOf counts n) in

@@ -13,6 +13,7 @@ use Rattle.rules.specs.Machine.{Machine, nodeCount, nodesOk, pagesOk, cp
 use Rattle.rules.specs.Records.{jobCount, jobTableOk}
 use Rattle.rules.specs.Maps.{mapSize, mapTableOk}
 use Rattle.rules.specs.Calls.{Tables, freeOk, jobsOk, requestTablesOk, freshTablesOk, releaseTablesOk, recordTablesOk, mappedTablesOk}
+use Rattle.rules.specs.Drain.{drainTablesOk}
 use Rattle.rules.proofs.Lists.{both-true, both-hold}
 use Rattle.rules.proofs.Machine.{CountsInOrder, counts-in-order}
 
@@ -73,6 +74,15 @@ release-ok m t h =
 pub fresh-ok : (counts : List ℕ) (t : Tables) → releaseTablesOk counts t ≡ true → freshTablesOk counts (length (t .ledger)) (length (t .free)) ≡ true
 unfolding releaseTablesOk
 fresh-ok counts t h = both-true {a = freshTablesOk counts (length (t .ledger)) (length (t .free))} {b = jobsOk (length (t .records)) (length (t .maps))} h .0
+
+-- those for a drain likewise
+pub drain-fresh-ok : (counts distances : List ℕ) (t : Tables) → drainTablesOk counts distances t ≡ true
+    → freshTablesOk counts (length (t .ledger)) (length (t .free)) ≡ true
+unfolding drainTablesOk
+drain-fresh-ok counts distances t h =
+    let fresh = freshTablesOk counts (length (t .ledger)) (length (t .free)) in
+    let table = distancesOk (length counts) distances in
+    both-true {a = fresh} {b = table} (both-true {a = fresh && table} {b = jobsOk (length (t .records)) (length (t .maps))} h .0) .0
 
 -- those for a request for a call that is lent N, the job table and the maps
 pub mapped-ok : (m : Machine) (t : Tables) → requestTablesOk m t ≡ true → mappedTablesOk (nodeCount m) (length (t .records)) (length (t .maps)) ≡ true

@@ -26,9 +26,9 @@ use Rattle.rules.specs.SearchOrder.{modeInForce, ringPlaces, plan, order
 use Rattle.rules.specs.Decisions.{Decision, refuse, accept}
 use Rattle.rules.specs.Calls.{Tables, Change, Store, afterStores, applied, jobsOk, requestTablesOk, recordTablesOk, mappedTablesOk, flagFits, policyKnown}
 use Rattle.rules.specs.Calls.{mapOf, isMapped, policyFits, installFits, limitOf, orderOf}
-use Rattle.rules.specs.Book.{Call, request, release, install, rebind, clear, freshTable, keepNodes, setMap, decision, step, final}
+use Rattle.rules.specs.Book.{Call, request, release, install, rebind, clear, freshTable, keepNodes, setMap, drain, decision, step, final}
 use Rattle.rules.proofs.Admission.{Passes, accepted}
-use Rattle.rules.proofs.Calls.{InstallPasses, RebindPasses, installs, rebinds, clears, keepings, setMaps, releases, freshens}
+use Rattle.rules.proofs.Calls.{InstallPasses, RebindPasses, installs, rebinds, clears, keepings, setMaps, releases, freshens, drains-so}
 use Rattle.rules.proofs.InOrder.{release-ok, fresh-ok, pages-in-order}
 use Rattle.rules.proofs.Maps.{turned-known, turned-bytes, map-nodes}
 use Rattle.rules.proofs.Lists.{_∈_, both-true, both-hold, between-true, keep-member, first-keep, first-member, map-member, around-below}
@@ -251,6 +251,7 @@ stores-good m t (clear j) e =
 stores-good m t freshTable e = rw (freshens (m .pageCounts) t e .1) tt
 stores-good m t (keepNodes j kept) e = rw (keepings (nodeCount m) t j kept e .1) tt
 stores-good m t (setMap j nodes) e = rw (setMaps (nodeCount m) t j nodes e .1) tt
+stores-good m t (drain y room) e = rw (drains-so (m .pageCounts) (m .distances) y t room e .2) tt
 
 -- ---- every call
 

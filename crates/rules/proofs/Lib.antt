@@ -19,6 +19,7 @@ pub mod Pages
 pub mod InOrder
 pub mod Picked
 pub mod Calls
+pub mod Moves
 pub mod Book
 pub mod FreeCounts
 pub mod AsBefore
@@ -31,3 +32,6 @@ pub mod ReasonsPlan
 pub mod Reasons
 pub mod ReasonsRoom
 pub mod ReasonsCall
+pub mod Drain
+pub mod DrainTurns
+pub mod DrainRefusals

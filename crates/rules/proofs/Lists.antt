@@ -2,7 +2,7 @@
 -- Assumes nothing.
 use Prim.Native.Nat.{suc-le-suc, ℕ, zero, suc, _+_, _-_, _%_, _≤_, _<_}
 use mathlib.Core.Path.{_≡_, refl, sym, ap, ap₂, subst, _∙_}
-use mathlib.Core.Logic.{_↔_, _⊎_, inl, inr, ⊎-elim}
+use mathlib.Core.Logic.{_↔_, _⊎_, _≢_, inl, inr, ⊎-elim}
 use mathlib.Core.Bool.{Bool, true, false, not, _&&_, _||_, cond, true≢false, false≢true, and-eq-true-iff, or-true, and-assoc, and-true}
 use mathlib.Core.Bool.{or-assoc}
 use mathlib.Mathlib.Data.Bool.Basic.{eq-false-of-not-eq-true}
@@ -13,9 +13,9 @@ use native.Mathlib.Nat.{not-suc-le-zero, le-of-suc-le-suc, zero-lt-suc, zero-add
 use native.Mathlib.Numerals.{add-one}
 use native.Mathlib.Omega.{arith}
 use lib.ListN.{length, getD, take, drop, take-append-drop}
-use lib.Dec.{leb}
-use borrow.Author.Tests.{leb-true, le-leb}
-use Rattle.rules.specs.Basics.{all, allAt, any, keep, first, firstOr, lastOr, butLast, isNil, count, each, from, around, sum, between}
+use lib.Dec.{leb, eqb}
+use borrow.Author.Tests.{leb-true, le-leb, eqb-true, eq-eqb}
+use Rattle.rules.specs.Basics.{all, allAt, any, keep, first, firstOr, lastOr, butLast, isNil, count, each, from, around, sum, between, same}
 
 -- ---- tests
 
@@ -280,6 +280,12 @@ entry-same [] i a b h = absurd (omega arith)
 entry-same (x ∷ xs) zero a b h = refl
 entry-same (x ∷ xs) (suc i) a b h = entry-same xs i a b (omega arith)
 
+-- an entry that is not what stands for none is in the table
+pub in-table : (ledger : List ℕ) (p d v : ℕ) → getD ledger p d ≡ v → v ≢ d → p < length ledger
+in-table [] p d v e n = absurd (n (sym e))
+in-table (x ∷ xs) zero d v e n = omega arith
+in-table (x ∷ xs) (suc p) d v e n = omega (arith, in-table xs p d v e n)
+
 -- ---- the last of a list
 
 module _ {A : Type 0} where
@@ -489,3 +495,21 @@ module _ (p : ℕ → Bool) where
   all-from-end n i ok h =
       let e : n - i ≡ 0 = omega arith in
       rw e (and-true ok)
+
+-- ---- two lists of numbers that are the same
+
+-- a list is the same as itself
+pub same-self : (xs : List ℕ) → same xs xs ≡ true
+unfolding same
+same-self [] = refl
+same-self (x ∷ xs) = both-hold (eq-eqb x x refl) (same-self xs)
+
+-- two that are found the same are equal
+pub same-lists : (xs ys : List ℕ) → same xs ys ≡ true → xs ≡ ys
+unfolding same
+same-lists [] [] e = refl
+same-lists [] (y ∷ ys) e = absurd (false≢true e)
+same-lists (x ∷ xs) [] e = absurd (false≢true e)
+same-lists (x ∷ xs) (y ∷ ys) e =
+    let b = both-true {a = eqb x y} e in
+    ap₂ (λ (z : ℕ) (zs : List ℕ). z ∷ zs) (eqb-true x y (b .0)) (same-lists xs ys (b .1))

@@ -13,7 +13,7 @@ use Rattle.rules.specs.Records.{Record}
 use Rattle.rules.specs.Maps.{applicationNode}
 use Rattle.rules.specs.SearchOrder.{Try, hasRoom, chosen}
 use Rattle.rules.specs.Decisions.{Decision, refuse, accept, unless, then}
-use Rattle.rules.specs.Calls.{Answer, granted, released, done, refused, Tables, Change, applied, granting, admitted, orderOf, serve, onRequest}
+use Rattle.rules.specs.Calls.{Answer, granted, released, done, drained, refused, Tables, Change, applied, granting, admitted, orderOf, serve, onRequest}
 use Rattle.rules.specs.Calls.{mapOf, requestDecision}
 use Rattle.rules.specs.Uncoloured.{grantingUncoloured, serveUncoloured, requestUncoloured, byNode, SameButPage}
 use Rattle.rules.proofs.Pages.{page-node}
@@ -66,9 +66,11 @@ module _ (m : Machine) (t : Tables) (j k : ℕ) where
   refused-by (refused q) (granted n p) r e f = absurd (let z : _≡_ {A = ℕ} 0 1 = cc in omega arith)
   refused-by (refused q) (released n p) r e f = absurd (let z : _≡_ {A = ℕ} 0 1 = cc in omega arith)
   refused-by (refused q) done r e f = absurd (let z : _≡_ {A = ℕ} 0 1 = cc in omega arith)
+  refused-by (refused q) (drained k) r e f = absurd (let z : _≡_ {A = ℕ} 0 1 = cc in omega arith)
   refused-by (granted n p) b r e f = absurd (let z : _≡_ {A = ℕ} 0 1 = cc in omega arith)
   refused-by (released n p) b r e f = absurd (let z : _≡_ {A = ℕ} 0 1 = cc in omega arith)
   refused-by done b r e f = absurd (let z : _≡_ {A = ℕ} 0 1 = cc in omega arith)
+  refused-by (drained k) b r e f = absurd (let z : _≡_ {A = ℕ} 0 1 = cc in omega arith)
 
   -- "nor when refusal 8 is given", and so for every refusal
   pub same-refusals : (r : ℕ) → (onRequest m t j k .answer ≡ refused r) ↔ (requestUncoloured m t j k .answer ≡ refused r)

@@ -28,11 +28,11 @@ use Rattle.rules.specs.Calls.{granted, released, Tables, Change, storing
 use Rattle.rules.specs.Calls.{freshTablesOk, releaseTablesOk, recordTablesOk, mappedTablesOk, isMapped, policyKnown, maskFits, policyFits}
 use Rattle.rules.specs.Calls.{holds, countFits, admitted, limitOf, orderOf, granting, serve, requestDecision, releaseDecision}
 use Rattle.rules.specs.Calls.{installFits, installDecision, applied, afterRemaps}
-use Rattle.rules.specs.Book.{Call, request, release, install, rebind, clear, freshTable, keepNodes, setMap, decision, step, final}
+use Rattle.rules.specs.Book.{Call, request, release, install, rebind, clear, freshTable, keepNodes, setMap, drain, decision, step, final}
 use Rattle.rules.specs.Unmapped.{Identity, setsMap, Past, answering, orderUnmapped, serveUnmapped, requestUnmapped, releaseUnmapped, installUnmapped}
 use Rattle.rules.proofs.AsBefore.{in-chain}
 use Rattle.rules.proofs.Admission.{accepted}
-use Rattle.rules.proofs.Calls.{installs, rebinds, clears, releases, freshens, lengths-kept, order-allowed, held-page}
+use Rattle.rules.proofs.Calls.{installs, rebinds, clears, releases, freshens, drains-so, lengths-kept, order-allowed, held-page}
 use Rattle.rules.proofs.Lists.{both-true, both-hold, either-true, either-false, between-true, true-any, true-all, fails, any-true}
 use Rattle.rules.proofs.Lists.{length-from, entry-from, first-keep, first-member, from-member, member-from, each-from-add}
 use Rattle.rules.proofs.Maps.{in-set, GoodNodes, bytes-long, length-each, bytes-nodes, bytes-good}
@@ -478,6 +478,7 @@ no-remaps m t (clear j) h e = ap (λ (x : Change). x .remaps) (clears (nodeCount
 no-remaps m t freshTable h e = ap (λ (x : Change). x .remaps) (freshens (m .pageCounts) t e .1)
 no-remaps m t (keepNodes j kept) h e = absurd (false≢true (sym h))
 no-remaps m t (setMap j nodes) h e = absurd (false≢true (sym h))
+no-remaps m t (drain x room) h e = ap (λ (x : Change). x .remaps) (drains-so (m .pageCounts) (m .distances) x t room e .2)
 
 -- so such a call leaves the maps as they are
 maps-stay : (m : Machine) (t : Tables) (c : Call) → setsMap c ≡ false → step m t c .tables .maps ≡ t .maps

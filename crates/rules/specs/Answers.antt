@@ -4,9 +4,9 @@ use mathlib.Core.List.{List, [], _∷_}
 use Rattle.rules.specs.declared.Refusal.{Refusal}
 use Rattle.rules.specs.declared.Refusal.the-variants.{BadTables, NoSuchJob, NoSuchCpu, MalformedRecord, UnknownPolicy, DoesNotFit}
 use Rattle.rules.specs.declared.Refusal.the-variants.{NothingAllowed, NoRoom, NothingEffective, NotHeld, OutputTooShort, BadText}
-use Rattle.rules.specs.declared.Refusal.the-variants.{DamagedJournal, WrongCount, BadMap, BadNote}
+use Rattle.rules.specs.declared.Refusal.the-variants.{DamagedJournal, WrongCount, BadMap, BadNote, NowhereToGo}
 use Rattle.rules.specs.declared.Answer.{Answer}
-use Rattle.rules.specs.declared.Answer.the-variants.{Granted, Released, Done, Refused}
+use Rattle.rules.specs.declared.Answer.the-variants.{Granted, Released, Done, Drained, Refused}
 use Rattle.rules.specs.declared.Decision.{Decision}
 use Rattle.rules.specs.declared.Decision.the-variants.{Accept, Refuse}
 use Rattle.rules.specs.declared.Ordered.{Ordered}
@@ -17,7 +17,7 @@ use Rattle.rules.specs.declared.Number.{Number}
 use Rattle.rules.specs.declared.Part.{Part}
 use Rattle.rules.specs.Decisions.{Decision as LawDecision, refuse, accept}
 use Rattle.rules.specs.Near.{Order, ordered}
-use Rattle.rules.specs.Calls.{Answer as LawAnswer, granted, released, done, refused, Tables, Outcome, numbers}
+use Rattle.rules.specs.Calls.{Answer as LawAnswer, granted, released, done, drained, refused, Tables, Outcome, numbers}
 use Rattle.rules.specs.Notes.{Part as LawPart, partAt}
 
 -- The table "Refusal numbers"
@@ -38,12 +38,14 @@ numberOf DamagedJournal = 13
 numberOf WrongCount = 14
 numberOf BadMap = 15
 numberOf BadNote = 16
+numberOf NowhereToGo = 17
 
 -- "Where an answer is an enum, a definition gives this paper's number and values for each case of the enum"
 abbrev pub answerOf : Answer → LawAnswer
 answerOf (Granted n p) = granted (n .0) (p .0)
 answerOf (Released n p) = released (n .0) (p .0)
 answerOf Done = done
+answerOf (Drained moves) = drained moves
 answerOf (Refused r) = refused (numberOf r)
 
 -- a number, or "its number alone"

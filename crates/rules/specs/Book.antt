@@ -6,9 +6,10 @@ use Rattle.rules.specs.Records.{Policy}
 use Rattle.rules.specs.Decisions.{Decision}
 use Rattle.rules.specs.Calls.{Answer, Tables, Change, Outcome, applied, requestDecision, releaseDecision}
 use Rattle.rules.specs.Calls.{freshDecision, installDecision, rebindDecision, clearDecision, keepDecision, setMapDecision}
+use Rattle.rules.specs.Drain.{drainDecision}
 
 -- "The calls are request, release, install, rebind and clear; a later call that changes pages, records or limits joins them": M-100's fresh
--- table, and M-103's tenant's and administrator's calls
+-- table, M-103's tenant's and administrator's calls, and M-107's drain of a node with room for so many numbers
 pub data Call : Type 0 where
   request : (job cpu : ℕ) → Call
   release : (job page : ℕ) → Call
@@ -18,6 +19,7 @@ pub data Call : Type 0 where
   freshTable : Call
   keepNodes : (job : ℕ) (kept : List ℕ) → Call
   setMap : (job : ℕ) (nodes : List ℕ) → Call
+  drain : (node room : ℕ) → Call
 
 -- "The book finds each answer or refusal by this document's rules, on its own ledger and records"
 unfoldable pub decision : Machine → Tables → Call → Decision Change
@@ -29,6 +31,7 @@ decision m t (clear j) = clearDecision (nodeCount m) (t .records) j
 decision m t freshTable = freshDecision (m .pageCounts) t
 decision m t (keepNodes j kept) = keepDecision (nodeCount m) t j kept
 decision m t (setMap j nodes) = setMapDecision (nodeCount m) t j nodes
+decision m t (drain x room) = drainDecision (m .pageCounts) (m .distances) x t room
 
 -- one call: its answer, and the tables afterwards
 unfoldable pub step : Machine → Tables → Call → Outcome

@@ -1,5 +1,5 @@
--- Document 01, "Refusal numbers", with requests M-100, "Free counts kept, not counted", and M-103, "Jobs that number from 0": the eight
--- calls. For each, what it answers and what it leaves in every table, for all inputs.
+-- Document 01, "Refusal numbers", with requests M-100, "Free counts kept, not counted", and M-103, "Jobs that number from 0": the calls, but
+-- for M-107's drain. For each, what it answers and what it leaves in every table, for all inputs.
 use Prim.Native.Nat.{ℕ, _+_, _-_}
 use mathlib.Core.Bool.{Bool, false, not, _&&_, _||_}
 use mathlib.Core.List.{List, [], _∷_, map}
@@ -21,13 +21,15 @@ pub data Answer : Type 0 where
   granted : (node page : ℕ) → Answer
   released : (node page : ℕ) → Answer
   done : Answer
+  drained : (moves : ℕ) → Answer
   refused : (number : ℕ) → Answer
 
--- "Answers .. refusal, node or FF, .. page or FFFFFFFF": an answer in numbers
+-- "Answers .. refusal, node or FF, .. page or FFFFFFFF": an answer in numbers; M-107: "answer how many", where a page would stand
 unfoldable pub numbers : Answer → List ℕ
 numbers (granted n p) = 0 ∷ n ∷ p ∷ []
 numbers (released n p) = 0 ∷ n ∷ p ∷ []
 numbers done = 0 ∷ 255 ∷ 4294967295 ∷ []
+numbers (drained moves) = 0 ∷ 255 ∷ moves ∷ []
 numbers (refused r) = r ∷ 255 ∷ 4294967295 ∷ []
 
 -- ---- what a call changes

@@ -6,20 +6,18 @@ use mathlib.Core.Bool.{Bool, _&&_}
 use mathlib.Core.List.{List, [], _∷_, map}
 use mathlib.Core.Option.{Option, none, some}
 use lib.ListN.{length}
+use lib.Dec.{ltb}
 use Rattle.rules.specs.Basics.{keep, first, from}
-use Rattle.rules.specs.Machine.{Machine, nodeCount, nodesOk, pagesOk, machineOk, pageTableOk}
+use Rattle.rules.specs.Machine.{Machine, nodeCount, nodesOk, pagesOk, distancesOk, machineOk, pageTableOk}
 use Rattle.rules.specs.Records.{recordAt, wellFormed}
-use Rattle.rules.specs.SearchOrder.{Try, freePages, hasRoom}
-use Rattle.rules.specs.Decisions.{Decision, refuse, accept, unless}
+use Rattle.rules.specs.SearchOrder.{Try, hasRoom, freeCounts}
+use Rattle.rules.specs.Decisions.{Decision, refuse, accept, unless, then}
 use Rattle.rules.specs.Calls.{Answer, Tables, tablesOf, Change, Outcome, outcome, applied, granting, freeing, freeingAll, isJob, isCpu}
 use Rattle.rules.specs.Calls.{jobsOk, isMapped, holds, orderOf, installDecision, rebindDecision, clearDecision, keepDecision, setMapDecision}
-use Rattle.rules.specs.Book.{Call, request, release, install, rebind, clear, freshTable, keepNodes, setMap}
+use Rattle.rules.specs.Drain.{draining, movesWithin}
+use Rattle.rules.specs.Book.{Call, request, release, install, rebind, clear, freshTable, keepNodes, setMap, drain}
 
 -- ---- counts that match
-
--- "one 32-bit free count per node": each the number of that node's free pages
-unfoldable pub freeCounts : List ℕ → List ℕ → List ℕ
-freeCounts counts ledger = map (λ n. length (freePages counts ledger n)) (from 0 (length counts))
 
 -- "the counts match the page table"
 abbrev pub Matches : List ℕ → Tables → Type 0
@@ -68,6 +66,13 @@ releaseUncounted counts t j p =
 unfoldable pub freshUncounted : List ℕ → Tables → Decision Change
 freshUncounted counts t = unless (pagesInOrder counts t) 1 (accept (freeingAll counts))
 
+-- M-107: 1, 6, 17, 11
+unfoldable pub drainUncounted : List ℕ → List ℕ → ℕ → Tables → ℕ → Decision Change
+drainUncounted counts distances x t room =
+    unless (pagesInOrder counts t && distancesOk (length counts) distances && jobsOk (length (t .records)) (length (t .maps))) 1
+    (unless (ltb x (length counts)) 6
+    (then (movesWithin counts distances x t room) (λ vs. accept (draining x t vs))))
+
 unfoldable pub decisionUncounted : Machine → Tables → Call → Decision Change
 decisionUncounted m t (request j k) = requestUncounted m t j k
 decisionUncounted m t (release j p) = releaseUncounted (m .pageCounts) t j p
@@ -77,6 +82,7 @@ decisionUncounted m t (clear j) = clearDecision (nodeCount m) (t .records) j
 decisionUncounted m t freshTable = freshUncounted (m .pageCounts) t
 decisionUncounted m t (keepNodes j kept) = keepDecision (nodeCount m) t j kept
 decisionUncounted m t (setMap j nodes) = setMapDecision (nodeCount m) t j nodes
+decisionUncounted m t (drain x room) = drainUncounted (m .pageCounts) (m .distances) x t room
 
 -- one call, decided by the page table alone: no test reads a count, and whatever counts a change sets, these are counted anew
 unfoldable pub stepUncounted : Machine → Tables → Call → Outcome
@@ -93,6 +99,6 @@ finalUncounted m t (c ∷ cs) = finalUncounted m (stepUncounted m t c .tables) c
 
 -- for a proof that computes: `unfolding openFreeCounts` opens every definition of this file
 unfoldable pub openFreeCounts : Unit {0}
-unfolding freeCounts firstWithRoom serveUncounted requestUncounted pagesInOrder releaseUncounted freshUncounted decisionUncounted stepUncounted
+unfolding firstWithRoom serveUncounted requestUncounted pagesInOrder releaseUncounted freshUncounted drainUncounted decisionUncounted stepUncounted
     answersUncounted finalUncounted
 openFreeCounts = tt

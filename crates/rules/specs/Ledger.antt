@@ -10,7 +10,8 @@ use Rattle.rules.specs.Decisions.{Decision, refuse, accept}
 use Rattle.rules.specs.Calls.{Tables, Write, Change}
 use Rattle.rules.specs.Book.{Call, decision, step}
 
--- "A grant to job j writes j + 1 at its page in the ledger, a release 0. Nothing else changes the ledger": what a call writes
+-- "A grant to job j writes j + 1 at its page in the ledger, a release 0. Nothing else changes the ledger"; M-107: "a move is a
+-- release and a grant in one step": what a call writes
 unfoldable pub writesOf : Decision Change → List Write
 writesOf (refuse r) = []
 writesOf (accept c) = c .writes

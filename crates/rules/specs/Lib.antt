@@ -8,6 +8,7 @@ pub mod Decisions
 pub mod Near
 pub mod Calls
 pub mod Reasons
+pub mod Drain
 pub mod Book
 pub mod FreeCounts
 pub mod Unmapped
@@ -27,3 +28,4 @@ pub mod ClosingExamples
 pub mod NoteExamples
 pub mod ColourExamples
 pub mod ReasonExamples
+pub mod DrainExamples

@@ -3,7 +3,7 @@ use Prim.Native.Nat.{ℕ, _-_, _%_}
 use mathlib.Core.Bool.{Bool, not, _&&_, cond}
 use mathlib.Core.List.{List, [], _∷_, _++_, map}
 use mathlib.Core.Option.{Option, none, some}
-use lib.ListN.{getD}
+use lib.ListN.{length, getD}
 use lib.Dec.{ltb, eqb}
 use Rattle.rules.specs.Basics.{keep, first, firstOr, isNil, each, from, around}
 use Rattle.rules.specs.Machine.{firstPage, pagesOf, distance}
@@ -105,6 +105,10 @@ freePages counts ledger n = keep (λ p. eqb (getD ledger p 1) 0) (pagesOf counts
 unfoldable pub hasRoom : List ℕ → List ℕ → ℕ → Bool
 hasRoom counts ledger n = not (isNil (freePages counts ledger n))
 
+-- M-100: "one 32-bit free count per node": each the number of that node's free pages
+unfoldable pub freeCounts : List ℕ → List ℕ → List ℕ
+freeCounts counts ledger = map (λ n. length (freePages counts ledger n)) (from 0 (length counts))
+
 -- M-105: "offset in its node, mod 4": of page p in node n
 unfoldable pub colourOf : List ℕ → ℕ → ℕ → ℕ
 colourOf counts n p = (p - firstPage counts n) % 4
@@ -128,6 +132,6 @@ chosen free ts = first (keep (λ t. counted free (t .node)) ts)
 
 -- for a proof that computes: `unfolding openSearchOrder` opens every definition of this file
 unfoldable pub openSearchOrder : Unit {0}
-unfolding others atDistance near nodeAt ringTries target interleaved listed planIn modeInForce plan tried order freePages hasRoom
+unfolding others atDistance near nodeAt ringTries target interleaved listed planIn modeInForce plan tried order freePages hasRoom freeCounts
     colourOf hasColour pickPage counted chosen
 openSearchOrder = tt

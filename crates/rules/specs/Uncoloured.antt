@@ -9,7 +9,8 @@ use Rattle.rules.specs.Machine.{Machine, nodeOfPage}
 use Rattle.rules.specs.Maps.{applicationNode}
 use Rattle.rules.specs.SearchOrder.{Try, freePages, hasRoom, chosen}
 use Rattle.rules.specs.Decisions.{Decision, refuse, accept, unless, then}
-use Rattle.rules.specs.Calls.{Answer, granted, released, done, refused, Tables, write, Change, Outcome, applied, granting, mapOf, admitted, orderOf}
+use Rattle.rules.specs.Calls.{Answer, granted, released, done, drained, refused, Tables, write, Change, Outcome, applied, granting}
+use Rattle.rules.specs.Calls.{mapOf, admitted, orderOf}
 
 -- "grants its lowest free page", whichever job asks
 unfoldable pub lowestPage : List ℕ → List ℕ → ℕ → ℕ
@@ -40,6 +41,7 @@ abbrev pub byNode : List ℕ → Answer → Answer
 byNode counts (granted a p) = granted a (nodeOfPage counts p)
 byNode counts (released a p) = released a p
 byNode counts done = done
+byNode counts (drained moves) = drained moves
 byNode counts (refused r) = refused r
 
 -- "On the same tables the node picked doesn't change, nor when refusal 8 is given"; nor do record, counts and maps

@@ -17,7 +17,7 @@ use Rattle.rules.specs.SearchOrder.{Try, plan, order, hasRoom, chosen, p
 use Rattle.rules.specs.Decisions.{Decision, refuse, accept, unless}
 use Rattle.rules.specs.Calls.{Answer, granted, released, Tables, Change, storing, granting, freeing, isJob, isCpu, freeOk, freshTablesOk}
 use Rattle.rules.specs.Calls.{recordTablesOk, policyKnown, policyFits, holds, countFits}
-use Rattle.rules.specs.Book.{Call, request, release, install, rebind, clear, freshTable, keepNodes, setMap}
+use Rattle.rules.specs.Book.{Call, request, release, install, rebind, clear, freshTable, keepNodes, setMap, drain}
 
 -- ---- map 0 to N-1
 
@@ -35,6 +35,7 @@ setsMap (clear j) = false
 setsMap freshTable = false
 setsMap (keepNodes j kept) = true
 setsMap (setMap j nodes) = true
+setsMap (drain x room) = false
 
 -- "an application number past the map's end": a place that names a node, N or above
 unfoldable pub Past : ℕ → Policy → Bool

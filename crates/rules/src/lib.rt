@@ -70,7 +70,8 @@ pub fn copy_first(list: &[u8], out: &mut [u8])
     }
 }
 
-// Why a call was refused: document 01, "Refusal numbers", from 1 on; 14 is of request M-100, 15 of M-103, 16 of M-104.
+// Why a call was refused: document 01, "Refusal numbers", from 1 on; 14 is of request M-100, 15 of M-103, 16 of M-104,
+// 17 of M-107.
 pub enum Refusal {
     BadTables,
     NoSuchJob,
@@ -88,13 +89,15 @@ pub enum Refusal {
     WrongCount,
     BadMap,
     BadNote,
+    NowhereToGo,
 }
 
-// What a call answers. A node is named by its number in the job's map, FF where it has none.
+// What a call answers. A node is named by its number in the job's map, FF where it has none. A drain says how many pages it moved.
 pub enum Answer {
     Granted(AppNode, Page),
     Released(AppNode, Page),
     Done,
+    Drained(u32),
     Refused(Refusal),
 }
 
@@ -162,6 +165,7 @@ impl Refusal {
             Refusal::WrongCount => 14,
             Refusal::BadMap => 15,
             Refusal::BadNote => 16,
+            Refusal::NowhereToGo => 17,
         }
     }
 }
@@ -188,6 +192,7 @@ impl Answer {
             Answer::Granted(node, page) => Numbers::of(0, node.0, page.0),
             Answer::Released(node, page) => Numbers::of(0, node.0, page.0),
             Answer::Done => Numbers::of(0, NO_NODE, NO_PAGE),
+            Answer::Drained(moves) => Numbers::of(0, NO_NODE, moves),
             Answer::Refused(why) => Numbers::of(why.number(), NO_NODE, NO_PAGE),
         }
     }

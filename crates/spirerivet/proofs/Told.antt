@@ -8,7 +8,7 @@ use lib.ListN.{getD}
 use Rattle.rules.specs.declared.Refusal.{Refusal}
 use Rattle.rules.specs.declared.Refusal.the-variants.{BadTables, NoSuchJob, NoSuchCpu, MalformedRecord, UnknownPolicy, DoesNotFit}
 use Rattle.rules.specs.declared.Refusal.the-variants.{NothingAllowed, NoRoom, NothingEffective, NotHeld, OutputTooShort, BadText}
-use Rattle.rules.specs.declared.Refusal.the-variants.{DamagedJournal, WrongCount, BadMap, BadNote}
+use Rattle.rules.specs.declared.Refusal.the-variants.{DamagedJournal, WrongCount, BadMap, BadNote, NowhereToGo}
 use Rattle.rules.specs.declared.Decision.{Decision}
 use Rattle.rules.specs.declared.Decision.the-variants.{Accept, Refuse}
 use Rattle.rules.specs.declared.Number.{Number}
@@ -16,8 +16,9 @@ use Rattle.rules.specs.Decisions.{Decision as LawDecision, accept, Written, wro
 use Rattle.rules.specs.Calls.{Answer, Tables, Outcome, outcome, numbers}
 use Rattle.rules.specs.Near.{Order, Listing, listing}
 use Rattle.rules.specs.Answers.{numberOf, decisionOf, inNumbers, numberIn, orderNumbers, told, toldOf}
+use Rattle.rules.specs.Drain.{Drained, didDrain}
 use Rattle.replay.specs.Replay.{Run, run}
-use Rattle.spirerivet.specs.Told.{toldOutput, toldWritten, toldListing, toldRun, toldReplay}
+use Rattle.spirerivet.specs.Told.{toldOutput, toldWritten, toldListing, toldRun, toldReplay, toldDrain}
 
 -- a call that did what the rules say is told so
 pub told-call : {o : Outcome} {a : Answer} {t : Tables} {ns : List ℕ} → ns ≡ numbers a → outcome a t ≡ o → told ns t ≡ toldOf o
@@ -40,6 +41,12 @@ pub told-run : {r : Run} {d : LawDecision ℕ} {t : Tables} {out : List ℕ} {ns
 unfolding toldReplay
 told-run {r} {d} {t} {out} n e = ap (λ (x : List ℕ). toldRun x t out) n ∙ ap toldReplay e
 
+-- and a drain
+pub told-drain : {r : Drained} {d : LawDecision ℕ} {t : Tables} {out : List ℕ} {ns : List ℕ} → ns ≡ inNumbers d → didDrain d t out ≡ r
+    → toldRun ns t out ≡ toldDrain r
+unfolding toldDrain
+told-drain {r} {d} {t} {out} n e = ap (λ (x : List ℕ). toldRun x t out) n ∙ ap toldDrain e
+
 -- no refusal has number 0
 numbered : (why : Refusal) → 1 ≤ numberOf why
 numbered BadTables = omega arith
@@ -57,6 +64,7 @@ numbered BadText = omega arith
 numbered DamagedJournal = omega arith
 numbered WrongCount = omega arith
 numbered BadMap = omega arith
+numbered NowhereToGo = omega arith
 numbered BadNote = omega arith
 
 -- refusal 0 is no refusal: the calls ran

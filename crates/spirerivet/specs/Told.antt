@@ -1,9 +1,10 @@
--- What a host in C or Rust is told, in numbers, since an enum cannot cross: of a call that writes an output, and of a list of calls.
+-- What a host in C or Rust is told, in numbers, since an enum cannot cross: of a call that writes an output, of a drain, and of a list of calls.
 use Prim.Native.Nat.{ℕ}
 use mathlib.Core.List.{List}
 use Rattle.rules.specs.Calls.{Tables}
 use Rattle.rules.specs.Decisions.{Written}
 use Rattle.rules.specs.Near.{Listing}
+use Rattle.rules.specs.Drain.{Drained}
 use Rattle.rules.specs.Answers.{inNumbers, orderNumbers}
 use Rattle.replay.specs.Replay.{Run}
 
@@ -35,3 +36,7 @@ toldRun answer tables output = record { answer = answer; tables = tables; output
 -- a list of calls, as a host is told of it
 unfoldable pub toldReplay : Run → ToldRun
 toldReplay r = toldRun (inNumbers (r .answer)) (r .tables) (r .output)
+
+-- M-107: a drain, as a host is told of it
+unfoldable pub toldDrain : Drained → ToldRun
+toldDrain d = toldRun (inNumbers (d .answer)) (d .tables) (d .output)

@@ -5,6 +5,7 @@ ghost use Prim.Native.Nat.{ℕ};
 ghost use lib.ListN.{replicate};
 ghost use Rattle.rules.specs.Answers.{numbersIn, numberIn, inNumbers, orderNumbersIn, partOf, told, toldOf};
 ghost use Rattle.rules.specs.Calls.{Tables, tablesOf, withRecords, withPages, withJobs, onRequest, onRelease, onFresh, onInstall, onRebind, onClear, onKeep, onSetMap};
+ghost use Rattle.rules.specs.Drain.{onDrain};
 ghost use Rattle.rules.specs.Journal.{writeJournal};
 ghost use Rattle.rules.specs.Near.{onNear};
 ghost use Rattle.rules.specs.Notes.{namePart, notePlaces, writeNote};
@@ -15,7 +16,8 @@ ghost use Rattle.machine.specs.Tables.{machineOf};
 ghost use Rattle.fairness.specs.Demand3.{Demand3};
 ghost use Rattle.replay.specs.Encoding.{callsIn};
 ghost use Rattle.replay.specs.Replay.{onReplay, Belongs};
-ghost use Rattle.spirerivet.specs.Told.{toldOutput, toldWritten, toldListing, toldRun, toldReplay};
+ghost use Rattle.spirerivet.specs.Told.{toldOutput, toldWritten, toldListing, toldRun, toldReplay, toldDrain};
+use drain;
 use journal;
 use machine::listing;
 use nodelist;
@@ -224,6 +226,23 @@ pub extern "C" fn spire_reasons(
         cpu,
         out,
     ).number()
+}
+
+// Every held page of a node moved to other nodes: how many, and the pairs of pages, old then new, at the start of the output.
+#[no_mangle]
+pub extern "C" fn spire_drain(
+    counts: &[u32],
+    distances: &[u8],
+    pages: &mut [u8],
+    jobs: &[u64],
+    free: &mut [u32],
+    maps: &[u8],
+    node: usize,
+    moves: &mut [u32],
+) -> Number
+    ensures { λ r. ⌜ toldRun (numberIn r) (tablesOf (now (pages .exit)) (now (jobs .entry)) (now (free .exit)) (now (maps .entry))) (now (moves .exit)) ≡ toldDrain (onDrain (now (counts .entry)) (now (distances .entry)) node (tablesOf (now (pages .entry)) (now (jobs .entry)) (now (free .entry)) (now (maps .entry))) (now (moves .entry))) ⌝ }
+{
+    drain::drain(counts, distances, pages, jobs, free, maps, node, moves).number()
 }
 
 // A list of calls, one after the other; their answers go to the output.

@@ -1,5 +1,5 @@
 //! Rents out machine A of document 01 to three tenants, the last with a map of its own and a program that names its memory,
-//! and tells what happens; for the support desk also why each node would serve a tenant or not.
+//! and tells what happens; for the support desk also why each node would serve a tenant or not. At last a board is pulled.
 
 use spirerivet::{flag, mode, which, Answer, AppNode, Reason, SysNode, JOB_WORDS, MOST_PLACES};
 
@@ -35,7 +35,7 @@ impl House {
             Answer::Granted { node, page } => format!("node {node}, page {page}"),
             Answer::Released { node: Some(node), page } => format!("node {node}, page {page} is free"),
             Answer::Released { node: None, page } => format!("page {page}, outside its map, is free"),
-            Answer::Done => String::from("done"),
+            Answer::Done | Answer::Drained { .. } => String::from("done"),
             Answer::Refused(refusal) => refusal.to_string(),
         };
         self.line(asked, &words);
@@ -132,6 +132,21 @@ impl House {
         self.line(&format!("why, for tenant {job} on CPU {cpu}"), &words);
     }
 
+    /// Every page of a node moves to another, before the board is pulled: the machine's number.
+    fn empty(&mut self, node: usize) {
+        let (mut moves, House { pages, jobs, free, maps, .. }) = ([[0; 2]; 6], &mut *self);
+        let out = moves.as_flattened_mut();
+        let words = match spirerivet::drain(&COUNTS, &DISTANCES, pages, jobs, free, maps, node, out) {
+            Ok(0) => String::from("nothing to move"),
+            Ok(moved) => {
+                let told: Vec<String> = moves[..moved].iter().map(|[old, new]| format!("{old} to {new}")).collect();
+                format!("pages {}", told.join(", "))
+            }
+            Err(refusal) => refusal.to_string(),
+        };
+        self.line(&format!("node {node} is emptied"), &words);
+    }
+
     /// A tenant gives a page back.
     fn give_back(&mut self, job: usize, page: usize) {
         let House { pages, jobs, free, maps, .. } = self;
@@ -160,6 +175,17 @@ fn named_memory(house: &mut House) {
     house.need(2, 0);
     house.go_by(2, note, which::DATA);
     house.go_by(2, &note[..length - 1], which::TEXT);
+}
+
+/// Node 1 has to go: no tenant gets a new page there, its pages move, and then it is empty.
+fn pulled_board(house: &mut House) {
+    house.rent(0, "!1");
+    house.rent(2, "!1");
+    house.empty(1);
+    house.give_back(1, 1);
+    house.give_back(2, 4);
+    house.empty(1);
+    house.empty(1);
 }
 
 /// Three tenants that number the nodes as the machine does, and no page yet.
@@ -202,6 +228,7 @@ pub fn story() -> String {
     house.need(2, 0);
     house.leave(2);
     named_memory(&mut house);
+    pulled_board(&mut house);
     for (node, marks) in nodes(&house.pages).iter().enumerate() {
         let (free, all) = (house.free[node], COUNTS[node]);
         house.story.push_str(&format!("node {node:2}  {free} of {all} free  |{marks}|\n"));

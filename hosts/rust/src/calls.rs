@@ -120,6 +120,24 @@ pub fn fresh(counts: &[u32], pages: &mut [u8], free: &mut [u32]) -> Answer {
     answer(ffi::fresh(counts, pages, free), done)
 }
 
+/// Empties a node before its board is pulled: each held page of it, from the lowest up, moves to the nearest node with room that
+/// its job may use and has in its map, other than this one; there it gets a page as by `request`. Writes old and new number of
+/// each page, in the order moved, at the start of `moves`, and gives how many pages moved: two numbers each, so twice the node's
+/// pages are always enough. All is worked out before anything is written: where one page has nowhere to go none moves. `free` is
+/// kept up. Jobs' policies and cursors play no part and stay. The node by the machine's number.
+pub fn drain(
+    counts: &[u32],
+    distances: &[u8],
+    pages: &mut [u8],
+    jobs: &[u64],
+    free: &mut [u32],
+    maps: &[u8],
+    node: usize,
+    moves: &mut [u32],
+) -> Result<usize, Refusal> {
+    number(ffi::drain(counts, distances, pages, jobs, free, maps, node, moves)).map(|moved| moved as usize)
+}
+
 /// Sets a job's policy: a mode of `mode`, a flag of `flag`, a user mask or places. Places, and the bits of a mask that is not
 /// relative, are the job's own numbers; the record gets the machine's. In mode `LIST` the last place may be `AppNode::ANY`.
 #[inline]

@@ -61,6 +61,11 @@ extern "C" {
         counts: *const u32, counts_len: usize, pages: *mut u8, pages_len: usize,
         free: *mut u32, free_len: usize,
     ) -> HostAnswer;
+    fn spire_drain(
+        counts: *const u32, counts_len: usize, distances: *const u8, distances_len: usize,
+        pages: *mut u8, pages_len: usize, jobs: *const u64, jobs_len: usize, free: *mut u32, free_len: usize,
+        maps: *const u8, maps_len: usize, node: usize, moves: *mut u32, moves_len: usize,
+    ) -> HostNumber;
     fn spire_install(
         nodes: usize, jobs: *mut u64, jobs_len: usize, maps: *const u8, maps_len: usize, job: usize,
         mode: u64, flag: u64, mask: u64, places: *const AppNode, places_len: usize,
@@ -147,6 +152,20 @@ pub fn fresh(counts: &[u32], pages: &mut [u8], free: &mut [u32]) -> HostAnswer {
     unsafe {
         spire_fresh(
             counts.as_ptr(), counts.len(), pages.as_mut_ptr(), pages.len(), free.as_mut_ptr(), free.len(),
+        )
+    }
+}
+
+#[rustfmt::skip]
+pub fn drain(
+    counts: &[u32], distances: &[u8], pages: &mut [u8], jobs: &[u64], free: &mut [u32], maps: &[u8],
+    node: usize, moves: &mut [u32],
+) -> HostNumber {
+    unsafe {
+        spire_drain(
+            counts.as_ptr(), counts.len(), distances.as_ptr(), distances.len(), pages.as_mut_ptr(), pages.len(),
+            jobs.as_ptr(), jobs.len(), free.as_mut_ptr(), free.len(), maps.as_ptr(), maps.len(),
+            node, moves.as_mut_ptr(), moves.len(),
         )
     }
 }

@@ -16,8 +16,8 @@ mod reason;
 
 pub use answer::{Answer, Order, Refusal};
 pub use calls::{
-    clear, fresh, install, journal, keep_nodes, name, near, note_places, read_nodes, reasons, rebind, release, replay,
-    request, set_map, write_nodes, write_note,
+    clear, drain, fresh, install, journal, keep_nodes, name, near, note_places, read_nodes, reasons, rebind, release,
+    replay, request, set_map, write_nodes, write_note,
 };
 pub use list::{answer_of, words_of, Call, CALL_WORDS, MOST_CALL_PLACES};
 pub use node::{identity_maps, AppNode, SysNode, MAP_BYTES, MAP_END};

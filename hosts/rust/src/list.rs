@@ -9,7 +9,7 @@ pub const CALL_WORDS: usize = 16;
 /// The places or nodes that stand in the words of a call; a list may have more.
 pub const MOST_CALL_PLACES: usize = 64;
 
-/// One call of a list.
+/// One call of a list. A drain has room for so many 32-bit numbers, two for each page that moves; the pairs are not handed out.
 #[derive(Clone, Copy, Debug, PartialEq, Eq)]
 pub enum Call<'a> {
     Request { job: u64, cpu: u64 },
@@ -20,6 +20,7 @@ pub enum Call<'a> {
     Fresh,
     KeepNodes { job: u64, kept: &'a [AppNode] },
     SetMap { job: u64, list: &'a [SysNode] },
+    Drain { node: u64, room: u64 },
 }
 
 /// Puts a list into the words of a call: word 5 has its length, words 8 to 15 the first 64 bytes.
@@ -52,6 +53,7 @@ pub fn words_of(call: &Call) -> [u64; CALL_WORDS] {
             words[..2].copy_from_slice(&[18, job]);
             put_list(&mut words, list.len(), list.iter().map(|node| node.0));
         }
+        Call::Drain { node, room } => words[..3].copy_from_slice(&[19, node, room]),
     }
     words
 }
@@ -68,6 +70,10 @@ pub fn answer_of(call: &Call, word: u64) -> Answer {
     match call {
         Call::Request { .. } => granted(node, page),
         Call::Release { .. } => released(node, page),
+        Call::Drain { .. } => {
+            debug_assert!(node == NO_NODE, "a drain with node {node}");
+            Answer::Drained { moves: page }
+        }
         _ => Answer::Done,
     }
 }
@@ -93,6 +99,8 @@ mod tests {
         assert_eq!(keep, [17, 9, 0, 0, 0, 2, 0, 0, 0x0200, 0, 0, 0, 0, 0, 0, 0]);
         let set = words(Call::SetMap { job: 9, list: SysNode::list(&[3, 1, 255]) });
         assert_eq!(set, [18, 9, 0, 0, 0, 3, 0, 0, 0xFF_0103, 0, 0, 0, 0, 0, 0, 0]);
+        let drain = words(Call::Drain { node: 3, room: 1 << 40 });
+        assert_eq!(drain, [19, 3, 1 << 40, 0, 0, 0, 0, 0, 0, 0, 0, 0, 0, 0, 0, 0]);
     }
 
     #[test]
@@ -131,5 +139,9 @@ mod tests {
         assert_eq!(answer_of(&Call::Request { job: 0, cpu: 0 }, done | 8), refused);
         let wrong_count = Answer::Refused(Refusal::WrongCount);
         assert_eq!(answer_of(&Call::Release { job: 0, page: 5 }, done | 14), wrong_count);
+        let drain = Call::Drain { node: 3, room: 4 };
+        assert_eq!(answer_of(&drain, 255 << 8 | 2 << 32), Answer::Drained { moves: 2 });
+        assert_eq!(answer_of(&drain, 255 << 8), Answer::Drained { moves: 0 });
+        assert_eq!(answer_of(&drain, done | 17), Answer::Refused(Refusal::NowhereToGo));
     }
 }

@@ -4,6 +4,7 @@ use reference::calls::{apply_with, Answer, Call, Tables};
 use reference::machine::all_pages;
 use reference::maps::AppNode;
 
+use crate::drain::library_drain;
 use crate::lent::LentTables;
 use crate::NUMBERS;
 
@@ -14,6 +15,7 @@ fn in_reference_words(answer: spirerivet::Answer) -> Answer {
         spirerivet::Answer::Released { node, page } => {
             Answer::Released { node: node.map(|node| AppNode(node.0)), page }
         }
+        spirerivet::Answer::Drained { moves } => Answer::Drained { moves },
         spirerivet::Answer::Done => Answer::Done,
         spirerivet::Answer::Refused(refusal) => Answer::Refused(refusal.number()),
     }
@@ -38,6 +40,7 @@ pub fn library_call(nodes: usize, lent: &mut LentTables, call: &Call) -> Answer 
             spirerivet::keep_nodes(nodes, jobs, maps, *job, spirerivet::AppNode::list(kept))
         }
         Call::SetMap { job, list } => spirerivet::set_map(nodes, jobs, maps, *job, spirerivet::SysNode::list(list)),
+        Call::Drain { node, room } => return drain_call(lent, *node, *room),
     })
 }
 
@@ -50,12 +53,22 @@ pub fn library_replay(lent: &mut LentTables, list: &[u64], answers: &mut [u64]) 
     ran.map_err(|refusal| refusal.number())
 }
 
+/// A drain as a call of a list, which is handed no pairs: the room that it says, or all that it could fill.
+fn drain_call(lent: &mut LentTables, node: usize, room: usize) -> Answer {
+    let mut moves = vec![0; room.min(2 * lent.pages.now().len())];
+    match library_drain(lent, node, &mut moves) {
+        Ok(moved) => Answer::Drained { moves: moved as u32 },
+        Err(number) => Answer::Refused(number),
+    }
+}
+
 /// What calls showed, so that a test can say it was not empty.
 #[derive(Clone, Debug, Default)]
 pub struct Seen {
     pub calls: u64,
     pub granted: u64,
     pub released: u64,
+    pub drained: u64,
     pub done: u64,
     /// By refusal number.
     pub refused: [u64; NUMBERS],
@@ -68,6 +81,7 @@ impl Seen {
         match answer {
             Answer::Granted { .. } => self.granted += 1,
             Answer::Released { .. } => self.released += 1,
+            Answer::Drained { .. } => self.drained += 1,
             Answer::Done => self.done += 1,
             Answer::Refused(number) => self.refused[usize::from(number)] += 1,
         }

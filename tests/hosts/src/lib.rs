@@ -4,6 +4,7 @@
 
 mod both;
 mod counts;
+mod drain;
 mod journal;
 mod lent;
 mod list;
@@ -16,6 +17,7 @@ use std::ops::Range;
 
 pub use both::{library_call, library_replay, Both, Seen};
 pub use counts::Shown;
+pub use drain::{drain_by_both, library_drain};
 pub use journal::journal_by_both;
 pub use lent::{Lent, LentTables};
 pub use list::{answer_word, install_in, list_refusal, map_call_in, packed, words, RUBBISH};

@@ -24,13 +24,14 @@ pub fn words(call: &Call) -> [u64; spirerivet::CALL_WORDS] {
         Call::Fresh => spirerivet::Call::Fresh,
         Call::KeepNodes { job, kept } => spirerivet::Call::KeepNodes { job: wide(job), kept: AppNode::list(kept) },
         Call::SetMap { job, list } => spirerivet::Call::SetMap { job: wide(job), list: SysNode::list(list) },
+        Call::Drain { node, room } => spirerivet::Call::Drain { node: wide(node), room: wide(room) },
     })
 }
 
 /// The words before the eighth that a kind uses.
 fn used(call: &Call) -> &'static [usize] {
     match call {
-        Call::Request { .. } | Call::Release { .. } | Call::Rebind { .. } => &[0, 1, 2],
+        Call::Request { .. } | Call::Release { .. } | Call::Rebind { .. } | Call::Drain { .. } => &[0, 1, 2],
         Call::Install { .. } => &[0, 1, 2, 3, 4, 5],
         Call::Clear { .. } => &[0, 1],
         Call::Fresh => &[0],
@@ -94,6 +95,7 @@ pub fn answer_word(answer: Answer) -> u64 {
     let (refusal, node, page) = match answer {
         Answer::Granted { node, page } => (0, node.0, page),
         Answer::Released { node, page } => (0, node.map_or(255, |node| node.0), page),
+        Answer::Drained { moves } => (0, 255, moves),
         Answer::Done => (0, 255, u32::MAX),
         Answer::Refused(number) => (number, 255, u32::MAX),
     };
@@ -107,7 +109,7 @@ pub fn list_refusal(tables: &Tables, list: &[u64], room: usize) -> Option<u8> {
     if !tables_fit || !free_fits(counts, free) || !maps_fit(jobs, maps) {
         return Some(1);
     }
-    if list.len() % 16 != 0 || list.chunks(16).any(|call| !matches!(call[0], 1..=5 | 16..=18)) {
+    if list.len() % 16 != 0 || list.chunks(16).any(|call| !matches!(call[0], 1..=5 | 16..=19)) {
         return Some(13);
     }
     if room < list.len() / 16 {

@@ -27,7 +27,8 @@ fn single_calls_on_tables_no_journal_reaches() {
     println!("{seen:?}\n{closings:?}");
     assert!(closings.each_at_least(5), "{closings:?}");
     assert!(seen.calls >= 20_000 && seen.granted > 500 && seen.released > 200 && seen.done > 500, "{seen:?}");
-    for number in [1, 2, 3, 4, 5, 6, 7, 8, 10, 14, 15] {
+    assert!(seen.drained > 50, "{seen:?}");
+    for number in [1, 2, 3, 4, 5, 6, 7, 8, 10, 14, 15, 17] {
         assert!(seen.refused[number] > 20, "refusal {number}: {seen:?}");
     }
 }
@@ -55,4 +56,5 @@ fn runs_of_calls_as_jobs_make_them() {
     println!("{seen:?}\n{closings:?}");
     assert!(closings.each_at_least(5), "{closings:?}");
     assert!(seen.calls >= 36_000 && seen.granted > 5_000 && seen.released > 1_000, "{seen:?}");
+    assert!(seen.drained > 100 && seen.refused[17] > 100, "{seen:?}");
 }

@@ -1,11 +1,13 @@
-//! Every example of document 01, of M-100's free counts, M-103's maps, M-104's closing 255 and notes, M-105's colours and M-106's
-//! reasons, on the linked library, the program and the second implementation, and beside what 01 prints.
+//! Every example of document 01, of M-100's free counts, M-103's maps, M-104's closing 255 and notes, M-105's colours, M-106's
+//! reasons and M-107's drains, on the linked library, the program and the second implementation, and beside what 01 prints.
 
 use hosts::{
-    answer_word, journal_by_both, library_replay, list_refusal, name_by_both, places_by_both, read_by_both,
-    reasons_by_both, words, write_by_both, Both, LentTables, Seen,
+    answer_word, drain_by_both, journal_by_both, library_replay, list_refusal, name_by_both, places_by_both,
+    read_by_both, reasons_by_both, words, write_by_both, Both, LentTables, Seen,
 };
 use reference::calls::Tables;
+use reference::drain_cases::DrainCase;
+use reference::drain_examples::{drain_examples, DrainExample};
 use reference::examples::{all, machine_a, texts, Example, Step, TextExample, ANSWERS_ON_A, JOURNAL_ON_A};
 use reference::note_cases::{NoteCase, NoteSort};
 use reference::note_examples::{notes, NoteExample, NODES, NODE_NAMES};
@@ -117,6 +119,16 @@ fn every_example_of_reasons() {
 }
 
 #[test]
+fn every_example_of_drains() {
+    let (done, refused): (Vec<DrainExample>, _) =
+        drain_examples().into_iter().partition(|example| example.outcome.is_ok());
+    assert!(done.len() > 40 && refused.len() > 35, "{} done, {} refused", done.len(), refused.len());
+    for DrainExample { why, tables, node, room, outcome } in done.into_iter().chain(refused) {
+        assert_eq!(drain_by_both(why, &DrainCase { tables, node, room }), outcome, "{why}");
+    }
+}
+
+#[test]
 fn every_example_of_document_01() {
     let placer = placer();
     let mut seen = Seen::default();
@@ -132,9 +144,10 @@ fn every_example_of_document_01() {
     by_journal(&placer, "journal on A", &JOURNAL_ON_A, &ANSWERS_ON_A);
     texts().into_iter().for_each(by_text);
     println!("{} examples of calls, {journals} of them as journals; {} texts; {seen:?}", all().len(), texts().len());
-    // Node 63 does not fit a journal, nor do free counts that are wrong at the start, a record handed in, maps and a page
-    // table handed in: six examples, twelve, six, 27 and three.
-    assert_eq!(journals, all().len() - 6 - 12 - 6 - 27 - 3);
-    assert!(seen.granted > 100 && seen.released > 5 && seen.refused[6] == 24 && seen.refused[8] > 15, "{seen:?}");
+    // Node 63 does not fit a journal, nor do free counts that are wrong at the start, a record handed in, maps, a page table
+    // handed in and drains: six examples, twelve, six, 27, three and five.
+    assert_eq!(journals, all().len() - 6 - 12 - 6 - 27 - 3 - 5);
+    assert!(seen.granted > 100 && seen.released > 5 && seen.refused[6] == 25 && seen.refused[8] > 15, "{seen:?}");
+    assert!(seen.drained == 6 && seen.refused[17] == 2, "{seen:?}");
     assert!(seen.refused[14] > 5 && seen.refused[15] > 30, "{seen:?}");
 }

@@ -1,7 +1,7 @@
 //! Demand 3 by brute force, counted on the grants of the library's replays; the free counts match at the start (M-100).
 
 use hosts::{seeds, words};
-use reference::calls::{Call, Tables};
+use reference::calls::{apply_each, Answer, Call, Tables};
 use reference::closing::Closings;
 use reference::fair::{add, check, check_with, Grant, Seen};
 use reference::generate::{journal_parts, list};
@@ -37,21 +37,25 @@ fn fair(told: &str, start: &Tables, calls: &[Call], total: &mut Seen) {
 #[test]
 fn every_window_of_every_replay_is_fair() {
     let (mut total, mut closings) = (Seen::default(), Closings::default());
-    let mut fresh = 0;
+    let (mut fresh, mut drained) = (0, 0);
     for seed in seeds(150) {
         let (start, calls) = list(seed, 160);
         fresh += calls.iter().filter(|call| **call == Call::Fresh).count();
         fair(&format!("list seed {seed}"), &start, &calls, &mut total);
         closings.enter_list(&start, &calls);
+        apply_each(&start, &calls, |_, _, answer| {
+            drained += u64::from(matches!(answer, Answer::Drained { moves: 1.. }))
+        });
     }
     for seed in seeds(60) {
         let (start, calls) = journal_parts(seed, 160);
         fair(&format!("journal seed {seed}"), &start, &calls, &mut total);
         closings.enter_list(&start, &calls);
     }
-    println!("{total:?}, {fresh} fresh tables, {closings:?}");
+    println!("{total:?}, {fresh} fresh tables, {drained} drains that moved pages, {closings:?}");
     // Between the grants that are counted, other jobs go by a closing 255 (M-104).
     assert!(closings.each_at_least(20), "{closings:?}");
     assert!(total.grants > 3_000 && total.at_least > 3_000 && total.exact > 300, "{total:?}");
-    assert!(fresh > 100, "{fresh}");
+    // A drain is no grant and sets no policy (M-107).
+    assert!(fresh > 100 && drained > 50, "{fresh} {drained}");
 }

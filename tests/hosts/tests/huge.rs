@@ -3,6 +3,7 @@
 use std::time::{Duration, Instant};
 
 use reference::calls::{request, Answer, Tables};
+use reference::drain::drain;
 use reference::examples::machine_a;
 use reference::reasons::write_reasons;
 use spirerivet::{AppNode, Order, Refusal, SysNode};
@@ -194,6 +195,36 @@ fn reasons_are_refused_and_written_at_once() {
     });
     assert_eq!(out[..6], [6, 7, 5, 7, 0, 0]);
     assert!(out[4..].iter().all(|byte| *byte == 0));
+}
+
+/// A drain of a node of some tables.
+fn drained(tables: &mut Tables, node: usize, moves: &mut [u32]) -> Result<usize, Refusal> {
+    let Tables { counts, distances, pages, jobs, free, maps, .. } = tables;
+    spirerivet::drain(counts, distances, pages, jobs, free, maps, node, moves)
+}
+
+/// Each table of a drain far too long, the node none and no room too; and far more pages and room than it needs.
+#[test]
+fn a_drain_is_refused_and_made_at_once() {
+    for (told, mut tables) in [
+        ("page counts", Tables { counts: vec![0; HUGE / 4], free: vec![0; HUGE / 4], ..machine_a() }),
+        ("distances", Tables { distances: vec![0; HUGE], ..machine_a() }),
+        ("job table", Tables { jobs: vec![0; HUGE / 48 * 6], ..machine_a() }),
+        ("free counts", Tables { free: vec![0; HUGE / 4], ..machine_a() }),
+        ("maps", Tables { maps: vec![0; HUGE], ..machine_a() }),
+    ] {
+        assert_eq!(drain(&mut tables, 9, &mut []), Err(1), "{told}");
+        at_once(&format!("drain: {told}"), || {
+            assert_eq!(drained(&mut tables, 9, &mut []), Err(Refusal::BadTables), "{told}");
+        });
+    }
+    let (mut tables, mut moves) = (Tables { pages: vec![0; HUGE], ..machine_a() }, vec![0; HUGE / 4]);
+    at_once("drain with far too many pages and far too much room", || {
+        (tables.pages[..6].copy_from_slice(&[0, 1, 0, 0, 0, 0]), tables.free = vec![1, 2, 0, 2]);
+        assert_eq!(drained(&mut tables, 0, &mut moves), Ok(1));
+    });
+    assert_eq!((&tables.pages[..8], &moves[..4]), (&[0, 0, 1, 0, 0, 0, 0, 0][..], &[1, 2, 0, 0][..]));
+    assert!(tables.pages[8..].iter().all(|byte| *byte == 0) && moves[2..].iter().all(|number| *number == 0));
 }
 
 /// Notes, lists and tables of names far too long; and far more output than a note fills.

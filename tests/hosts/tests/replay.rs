@@ -6,6 +6,8 @@ use hosts::{
 };
 use reference::calls::{apply, apply_without_counts, Answer, Call, Tables};
 use reference::closing::Closings;
+use reference::drain_cases::drain_case;
+use reference::drain_requests::wrong_after;
 use reference::examples::machine_a;
 use reference::generate::{journal_parts, list, put_counts, tables, Counts, Dice, SORTS_OF_COUNTS};
 use reference::map_cases::{good_keep, good_set, put_map, SORTS};
@@ -13,6 +15,9 @@ use reference::map_cases::{good_keep, good_set, put_map, SORTS};
 /// Numbers of places over 16, and of nodes: the next one, those about 64, and such as are small when cut or shifted.
 const LONG: [u64; 16] =
     [17, 63, 64, 65, 66, 255, 256, 257, 320, 65_537, 1 << 32, 1 << 32 | 1, 1 << 61 | 1, 1 << 63, 1 << 63 | 1, u64::MAX];
+
+/// The word of a refusal, but for its number.
+const REFUSED: u64 = 0xFFFF_FFFF_0000_FF00;
 
 /// A replay by the library, and everything it was lent.
 struct Run {
@@ -162,7 +167,7 @@ fn kind_16_is_a_fresh_table_and_reads_no_other_word() {
     for kind in (0..=300).chain(like_16) {
         let mut words = [0; 16];
         words[0] = kind;
-        let known = (1..=5).contains(&kind) || (16..=18).contains(&kind);
+        let known = (1..=5).contains(&kind) || (16..=19).contains(&kind);
         assert_eq!(list_refusal(&start, &words, 1), if known { None } else { Some(13) }, "kind {kind}");
         assert_eq!(run(&start, &words, 1).outcome, if known { Ok(1) } else { Err(13) }, "kind {kind}");
     }
@@ -174,7 +179,7 @@ fn damage(dice: &mut Dice, words: &mut Vec<u64>, calls: &mut [Call]) -> usize {
     let turn = dice.below(calls.len());
     let at = 16 * turn;
     match dice.below(8) {
-        0 => words[at] = dice.pick(&[0, 6, 7, 15, 19, 255, 256, 257, 272, 1 << 32, 1 << 32 | 17, u64::MAX]),
+        0 => words[at] = dice.pick(&[0, 6, 7, 15, 20, 255, 256, 257, 272, 1 << 32, 1 << 32 | 19, u64::MAX]),
         1 => {
             words[at] = 4;
             words[at + 5] = dice.pick(&LONG);
@@ -382,6 +387,77 @@ fn replays_on_maps_of_every_sort() {
     }
     println!("{kept} kept nodes, {set} set maps, {refused} refused 15");
     assert!(kept > 300 && set > 1_000 && refused > 1_000, "{kept} {set} {refused}");
+}
+
+/// Kind 19 reads the node and the room, whole words both, and no other; the pairs are not handed out.
+#[test]
+fn kind_19_is_a_drain_and_reads_two_words() {
+    let start = Tables { pages: vec![0, 1, 0, 0, 1, 1], ..machine_a() }.counted();
+    let mut dice = Dice::new(19);
+    let rooms = (0..=5).chain(LONG).map(|room| (3, room, if room < 4 { 11 } else { 0 }));
+    let nodes = [4, 5, 64, 256, 259, 1 << 32 | 3, 1 << 63 | 3, u64::MAX].map(|node| (node, 9, 6));
+    for (node, room, refusal) in rooms.chain(nodes) {
+        let mut words: Vec<u64> = (0..16).map(|_| dice.next()).collect();
+        words[..3].copy_from_slice(&[19, node, room]);
+        let calls = [Call::Drain { node: node as usize, room: room as usize }, Call::Request { job: 0, cpu: 6 }];
+        words.extend(packed(&mut dice, &calls[1..]));
+        let told = format!("node {node}, room {room}");
+        assert_eq!(check(&told, &start, &words, &calls, 2), 2);
+        let found = run(&start, &words, 2);
+        assert_eq!(found.answers.now()[0], if refusal == 0 { 255 << 8 | 2 << 32 } else { REFUSED | refusal }, "{told}");
+        if refusal == 0 {
+            assert_eq!(found.lent.pages.now(), [0, 1, 1, 1, 1, 0], "{told}: and the request got page 4");
+        }
+    }
+    let empty = machine_a();
+    assert_eq!(run(&empty, &[[19, 2].to_vec(), vec![0; 14]].concat(), 1).answers.now(), [255 << 8]);
+}
+
+/// Drains put between the calls of lists, on counts that match or are wrong: as the calls one by one; and each drain that is
+/// made leaves what the page bytes alone ask for.
+#[test]
+fn replays_with_drains() {
+    let (mut moved, mut refused) = (0, [0; NUMBERS]);
+    for seed in seeds(1_000).filter(|seed| seed % 97 != 96) {
+        let mut dice = Dice::new(seed ^ 0x107);
+        let (mut start, mut calls) = match seed % 2 {
+            0 => list(seed, 40),
+            _ => (drain_case(seed).tables, tables(seed, 20).2),
+        };
+        if dice.chance(15) {
+            put_counts(&mut dice, &mut start, Counts::TooLow);
+        }
+        for _ in 0..8 {
+            let (node, room) = (dice.below(start.counts.len() + 1), dice.pick(&[0, 2, 5, 40, usize::MAX]));
+            calls.insert(dice.below(calls.len()), Call::Drain { node, room });
+        }
+        let words = packed(&mut dice, &calls);
+        let told = format!("seed {seed}");
+        if check(&told, &start, &words, &calls, calls.len()) == 0 {
+            continue;
+        }
+        let mut tables = start.clone();
+        for (turn, call) in calls.iter().enumerate() {
+            match (call, apply(&mut tables, call)) {
+                (Call::Drain { node, .. }, Answer::Drained { moves: 1.. }) => {
+                    let [before, after] = [turn, turn + 1].map(|end| tables_after(&start, &words[..16 * end]));
+                    assert_eq!(wrong_after(&before, &after, *node), None, "{told} call {turn}");
+                    moved += 1;
+                }
+                (Call::Drain { .. }, Answer::Refused(number)) => refused[usize::from(number)] += 1,
+                _ => {}
+            }
+        }
+    }
+    println!("{moved} drains that moved pages, refused {refused:?}");
+    assert!(moved > 150 && [6, 11, 14, 17].iter().all(|number| refused[*number] > 50), "{moved} {refused:?}");
+}
+
+/// The tables that a list of calls leaves, by the library.
+fn tables_after(start: &Tables, words: &[u64]) -> Tables {
+    let LentTables { pages, jobs, free, maps, .. } = run(start, words, words.len() / 16).lent;
+    let (pages, jobs) = (pages.now().to_vec(), jobs.now().to_vec());
+    Tables { pages, jobs, free: free.now().to_vec(), maps: maps.now().to_vec(), ..start.clone() }
 }
 
 #[test]

@@ -1,5 +1,7 @@
-//! The calls on lent tables: request, release, install, rebind, clear, M-100's fresh table, and M-103's two of maps.
+//! The calls on lent tables: request, release, install, rebind, clear, M-100's fresh table, M-103's two of maps, and M-107's
+//! drain as a call of a list.
 
+use crate::drain::drain_pairs;
 use crate::machine::{
     all_pages, byte_of_job, free_counts, free_fits, fresh_tables_fit, lowest_free_page, node_of_page, page_for_job,
     policy_tables_fit, release_tables_fit, request_tables_fit, FREE,
@@ -16,11 +18,12 @@ use crate::record::{
 };
 
 /// What a call gives: its answer or one numbered refusal (Refusal numbers). A node is answered by the job's own number;
-/// "A released page outside the map answers node FF", which is none here (M-103).
+/// "A released page outside the map answers node FF", which is none here (M-103). A drain answers how many pages moved (M-107).
 #[derive(Clone, Copy, Debug, PartialEq, Eq)]
 pub enum Answer {
     Granted { node: AppNode, page: u32 },
     Released { node: Option<AppNode>, page: u32 },
+    Drained { moves: u32 },
     Done,
     Refused(u8),
 }
@@ -625,7 +628,8 @@ impl Tables {
 }
 
 /// "The calls are request, release, install, rebind and clear; a later call that changes pages, records or limits joins
-/// them" (The lists of demand 3): M-100's fresh table, M-103's two of maps.
+/// them" (The lists of demand 3): M-100's fresh table, M-103's two of maps, M-107's drain, which hands out no pairs, but says the
+/// room for them, in numbers.
 #[derive(Clone, Debug, PartialEq, Eq)]
 pub enum Call {
     Request { job: usize, cpu: usize },
@@ -636,12 +640,26 @@ pub enum Call {
     Fresh,
     KeepNodes { job: usize, kept: Vec<u8> },
     SetMap { job: usize, list: Vec<u8> },
+    Drain { node: usize, room: usize },
 }
 
 impl Call {
     /// Is it one of M-103's, which no journal has and no host had before?
     pub fn is_of_maps(&self) -> bool {
         matches!(self, Call::KeepNodes { .. } | Call::SetMap { .. })
+    }
+
+    /// Has a journal a record for it?
+    pub fn is_of_journals(&self) -> bool {
+        !self.is_of_maps() && !matches!(self, Call::Fresh | Call::Drain { .. })
+    }
+}
+
+/// A drain as a call of a list.
+fn drain_call(tables: &mut Tables, node: usize, room: usize) -> Answer {
+    match drain_pairs(tables, node, room) {
+        Ok(pairs) => Answer::Drained { moves: (pairs.len() / 2) as u32 },
+        Err(number) => Answer::Refused(number),
     }
 }
 
@@ -659,11 +677,19 @@ pub fn apply_with(nodes: usize, tables: &mut Tables, call: &Call) -> Answer {
         Call::Fresh => fresh(counts, pages, free),
         Call::KeepNodes { job, kept } => keep_nodes(nodes, jobs, maps, *job, kept),
         Call::SetMap { job, list } => set_map(nodes, jobs, maps, *job, list),
+        Call::Drain { node, room } => drain_call(tables, *node, *room),
     }
 }
 
-/// Makes one call as it was "before" M-100: the free counts are neither read nor written. A fresh table frees its pages.
+/// Makes one call as it was "before" M-100: the free counts are neither read nor written. A fresh table frees its pages, and
+/// a drain goes by the pages alone.
 pub fn apply_without_counts(nodes: usize, tables: &mut Tables, call: &Call) -> Answer {
+    if let Call::Drain { node, room } = call {
+        let mut counted = tables.clone().counted();
+        let answer = drain_call(&mut counted, *node, *room);
+        tables.pages = counted.pages;
+        return answer;
+    }
     let Tables { counts, cpus, distances, pages, jobs, maps, .. } = tables;
     match call {
         Call::Request { job, cpu } => request_without_counts(counts, cpus, distances, pages, jobs, maps, *job, *cpu),
@@ -673,8 +699,15 @@ pub fn apply_without_counts(nodes: usize, tables: &mut Tables, call: &Call) -> A
     }
 }
 
-/// Makes one call as it was before M-103: the maps are neither read nor written. The calls of maps were not there.
+/// Makes one call as it was before M-103: the maps are neither read nor written. The calls of maps were not there. A drain
+/// goes by the map 0 to N-1, which is no limit.
 pub fn apply_without_maps(nodes: usize, tables: &mut Tables, call: &Call) -> Answer {
+    if let Call::Drain { node, room } = call {
+        let mut without = tables.clone().numbered_as_the_machine();
+        let answer = drain_call(&mut without, *node, *room);
+        (tables.pages, tables.free) = (without.pages, without.free);
+        return answer;
+    }
     let Tables { counts, cpus, distances, pages, jobs, free, .. } = tables;
     match call {
         Call::Request { job, cpu } => request_without_maps(counts, cpus, distances, pages, jobs, free, *job, *cpu),

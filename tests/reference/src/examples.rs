@@ -1,11 +1,12 @@
 //! Document 01's examples and easy mistakes as one table: calls, and what 01 prints for them; a few readings of its rules;
 //! and what M-100 says of free counts, M-103 of maps, M-104 of a closing 255. M-105's are in `colour_examples`, M-106's in
-//! `reason_examples`.
+//! `reason_examples`, M-107's in `drain_examples`.
 //!
 //! This crate runs the table on the second implementation; `hosts` runs it on the linked library and the program too.
 
 use crate::calls::{apply, Answer, Call, Tables};
 use crate::colour_examples;
+use crate::drain_examples;
 use crate::journal::{answer_bytes, call_bytes, machine_bytes, MOST_NODES};
 use crate::maps::{identity_maps, map_with, AppNode};
 use crate::record::{BIND, DEFAULT, EARLY, INTERLEAVE, LIST, NO_FLAG, PREFERRED, RELATIVE, RING, STATIC, WORDS};
@@ -46,7 +47,7 @@ impl Example {
         Example::new(name, fresh_a()).rebind(0b1111).install(mode, NO_FLAG, mask, places)
     }
 
-    fn step(mut self, step: Step) -> Example {
+    pub(crate) fn step(mut self, step: Step) -> Example {
         self.steps.push(step);
         self
     }
@@ -131,13 +132,12 @@ impl Example {
     }
 
     /// The example as a journal and its answers, if it fits one: N, free pages that are counted, fresh jobs with map 0 to
-    /// N-1, and no fresh table and no call of maps.
+    /// N-1, and no fresh table, no call of maps and no drain.
     pub fn journal(&self) -> Option<(Vec<u8>, Vec<u8>)> {
         let Tables { counts, jobs, free, maps, .. } = &self.start;
         let all_free = free == counts && self.start.counts_match();
         let all_fresh = jobs.iter().all(|word| *word == 0) && *maps == identity_maps(counts.len(), jobs.len() / WORDS);
-        let has_no_record = |call: &Call| *call == Call::Fresh || call.is_of_maps();
-        let has_no_records = self.calls().iter().any(|(call, _)| has_no_record(call));
+        let has_no_records = self.calls().iter().any(|(call, _)| !call.is_of_journals());
         if counts.len() > MOST_NODES || !all_free || !all_fresh || has_no_records {
             return None;
         }
@@ -229,6 +229,8 @@ pub fn all() -> Vec<Example> {
         colour_examples::between_nodes(),
         colour_examples::between_jobs(),
         colour_examples::handed_in(),
+        drain_examples::in_lists(),
+        drain_examples::by_limits_in_lists(),
     ]
     .concat()
 }

@@ -132,12 +132,13 @@ fn which_granted(record: &Record, grant: Grant) -> Option<usize> {
     None
 }
 
-/// The job whose policy or limits an accepted call sets: install, rebind, clear (demand 3), keep nodes, set map (M-103).
+/// The job whose policy or limits an accepted call sets: install, rebind, clear (demand 3), keep nodes, set map (M-103). A
+/// drain sets none, and "in demand 3 it isn't a granted request" (M-107).
 fn job_whose_policy_is_set(call: &Call) -> Option<usize> {
     match call {
         Call::Install { job, .. } | Call::Rebind { job, .. } | Call::Clear { job } => Some(*job),
         Call::KeepNodes { job, .. } | Call::SetMap { job, .. } => Some(*job),
-        Call::Request { .. } | Call::Release { .. } | Call::Fresh => None,
+        Call::Request { .. } | Call::Release { .. } | Call::Fresh | Call::Drain { .. } => None,
     }
 }
 

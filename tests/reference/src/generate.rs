@@ -6,6 +6,7 @@
 use std::collections::VecDeque;
 
 use crate::calls::{apply, Answer, Call, Tables};
+use crate::drain_cases::some_drain;
 use crate::journal::{call_bytes, is_used, machine_bytes, CLEAR, INSTALL, JOBS, REBIND, RELEASE, REQUEST};
 use crate::machine::free_counts;
 use crate::map_cases::{
@@ -463,7 +464,7 @@ struct Script {
     run_left: usize,
     /// Whether releases are more common than requests just now.
     draining: bool,
-    /// Whether calls may be those that no journal has: fresh tables and maps.
+    /// Whether calls may be those that no journal has: fresh tables, maps and drains.
     past_journals: bool,
 }
 
@@ -691,6 +692,9 @@ impl Script {
         if self.past_journals && self.dice.chance(1) {
             return Call::Fresh;
         }
+        if self.past_journals && self.dice.chance(3) {
+            return some_drain(&mut self.dice, &self.book);
+        }
         if self.run_left > 0 {
             return self.go_on_running();
         }
@@ -784,8 +788,8 @@ pub fn journal(seed: u64, records: usize) -> Vec<u8> {
 }
 
 /// A list of calls as demand 3 takes it: any page table with counts that match,
-/// any job table and maps, some fresh tables, and no accepted call that sets policy
-/// or limits for the jobs that start in ring or interleave mode, whose maps are good.
+/// any job table and maps, some fresh tables and drains, and no accepted call that sets
+/// policy or limits for the jobs that start in ring or interleave mode, whose maps are good.
 pub fn list(seed: u64, how_many: usize) -> (Tables, Vec<Call>) {
     let mut dice = Dice::new(seed ^ 0x1157);
     let nodes = match dice.below(10) {
@@ -793,7 +797,7 @@ pub fn list(seed: u64, how_many: usize) -> (Tables, Vec<Call>) {
         1 => dice.between(1, 64),
         _ => dice.between(1, 8),
     };
-    let job_count = dice.between(1, 6);
+    let job_count = dice.between(1, 8);
     let mut start = some_machine(&mut dice, nodes, 256, job_count);
     fill_some_pages(&mut dice, &mut start);
     start = start.counted();
@@ -1338,7 +1342,7 @@ fn some_call(dice: &mut Dice, nodes: usize, tables: &Tables) -> Call {
         allowed = read(&tables.jobs, job).allowed;
     }
     let map = numbers_of(tables, job);
-    match dice.below(19) {
+    match dice.below(20) {
         0..=4 => {
             let count = tables.cpus.len();
             let far = dice.pick(&[count, count + 1, 256, usize::MAX, 1 << 32]);
@@ -1362,6 +1366,7 @@ fn some_call(dice: &mut Dice, nodes: usize, tables: &Tables) -> Call {
         15 => bad_keep(dice, job, map.len()),
         16 => good_set(dice, nodes, job),
         17 => bad_set(dice, nodes, job),
+        18 => some_drain(dice, tables),
         _ => Call::Fresh,
     }
 }
@@ -1870,6 +1875,7 @@ mod tests {
                 Call::Fresh => 16,
                 Call::KeepNodes { .. } => 17,
                 Call::SetMap { .. } => 18,
+                Call::Drain { .. } => 19,
             };
             shown.insert((kind, refusal(answer)));
             if refusal(answer) != 0 {
@@ -1929,6 +1935,12 @@ mod tests {
             (18, 1),
             (18, 2),
             (18, 15),
+            (19, 0),
+            (19, 1),
+            (19, 6),
+            (19, 11),
+            (19, 14),
+            (19, 17),
         ];
         assert_eq!(shown, BTreeSet::from(expected));
         assert_eq!(granted, all_modes_and_flags());

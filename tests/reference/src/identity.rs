@@ -39,7 +39,7 @@ fn as_before(told: &str, nodes: usize, start: Tables, calls: &[Call], shown: &mu
         match answer {
             Answer::Granted { .. } => shown.granted += 1,
             Answer::Released { .. } => shown.released += 1,
-            Answer::Done => shown.done += 1,
+            Answer::Done | Answer::Drained { .. } => shown.done += 1,
             Answer::Refused(_) => shown.refused += 1,
         }
     }

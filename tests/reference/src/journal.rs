@@ -48,6 +48,7 @@ pub fn answer_bytes(kind: u8, answer: Answer) -> [u8; ANSWER] {
             node_byte = node.map_or(END, |node| node.0);
             page_number = page;
         }
+        Answer::Drained { .. } => panic!("a journal has no record for a drain"),
         Answer::Done => {}
         Answer::Refused(number) => refusal = number,
     }
@@ -309,7 +310,9 @@ pub fn call_bytes(call: &Call) -> [u8; RECORD] {
             bytes[2] = CLEAR;
             bytes[3] = *job as u8;
         }
-        Call::Fresh | Call::KeepNodes { .. } | Call::SetMap { .. } => panic!("a journal has no record for {call:?}"),
+        Call::Fresh | Call::KeepNodes { .. } | Call::SetMap { .. } | Call::Drain { .. } => {
+            panic!("a journal has no record for {call:?}")
+        }
     }
     bytes
 }

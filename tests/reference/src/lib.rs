@@ -1,4 +1,4 @@
-//! The second, independent implementation of document 01, as document 02 amends it: M-100 to M-106.
+//! The second, independent implementation of document 01, as document 02 amends it: M-100 to M-107.
 //!
 //! Written from the papers alone, to be compared with the real one byte for
 //! byte. Plain and slow on purpose: every function is named after the papers'
@@ -10,6 +10,11 @@ pub mod calls;
 pub mod closing;
 mod colour_examples;
 pub mod colours;
+pub mod drain;
+pub mod drain_cases;
+pub mod drain_examples;
+pub mod drain_requests;
+pub mod drain_ways;
 pub mod examples;
 pub mod fair;
 pub mod generate;

@@ -14,6 +14,15 @@ pub fn with(mask: u64, node: usize) -> u64 {
     }
 }
 
+/// The mask without a node (M-107: "without x").
+pub fn without(mask: u64, node: usize) -> u64 {
+    if has(mask, node) {
+        mask - with(0, node)
+    } else {
+        mask
+    }
+}
+
 /// "Ranks and sizes are counts of ones in the mask" (Masks).
 pub fn size(mask: u64) -> usize {
     let mut ones = 0;

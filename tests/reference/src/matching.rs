@@ -1,6 +1,7 @@
 //! M-100: "If the counts match the page table at entry, every call answers as before and they match afterwards."
 
 use crate::calls::{apply, apply_with, apply_without_counts, Answer, Call, Tables};
+use crate::drain_requests::by_requests;
 use crate::generate::{case, journal_parts, list, put_counts, tables, Case, Counts, Dice, SORTS_OF_COUNTS};
 use crate::machine::{all_pages, byte_of_job};
 
@@ -77,7 +78,8 @@ fn after_a_fresh_table_the_counts_match() {
 }
 
 /// "A grant to job j writes j + 1 at its page in the ledger, a release 0" (The lists of demand 3); a fresh table "in the
-/// ledger is a release of each page" (M-100). With counts of any sort, the answers alone say what the page table is.
+/// ledger is a release of each page" (M-100), and a move "a release and a grant in one step" (M-107). With counts of any sort,
+/// the answers, and a drain's pairs, alone say what the page table is.
 #[test]
 fn the_ledger_goes_by_the_answers() {
     let mut changes = 0;
@@ -87,7 +89,15 @@ fn the_ledger_goes_by_the_answers() {
             put_counts(&mut Dice::new(seed), &mut tables, sort);
             let mut ledger = tables.pages.clone();
             for (turn, call) in calls.iter().enumerate() {
+                let before = tables.clone();
                 match (call, apply(&mut tables, call)) {
+                    (Call::Drain { node, .. }, Answer::Drained { .. }) => {
+                        for pair in by_requests(&before, *node).expect("a drain that was granted").chunks(2) {
+                            ledger[pair[1] as usize] = ledger[pair[0] as usize];
+                            ledger[pair[0] as usize] = 0;
+                            changes += 1;
+                        }
+                    }
                     (Call::Request { job, .. }, Answer::Granted { page, .. }) => {
                         ledger[page as usize] = byte_of_job(*job);
                         changes += 1;

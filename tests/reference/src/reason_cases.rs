@@ -17,7 +17,7 @@ pub struct ReasonCase {
 }
 
 /// Some nodes that cannot be reached from some others.
-fn put_some_gaps(dice: &mut Dice, tables: &mut Tables) {
+pub(crate) fn put_some_gaps(dice: &mut Dice, tables: &mut Tables) {
     let (nodes, percent) = (tables.counts.len(), dice.pick(&[10, 30, 60]));
     for (cell, far) in tables.distances.iter_mut().enumerate() {
         if cell % (nodes + 1) != 0 && dice.chance(percent) {
@@ -27,7 +27,7 @@ fn put_some_gaps(dice: &mut Dice, tables: &mut Tables) {
 }
 
 /// A good record and a good map for a job.
-fn put_good_job(dice: &mut Dice, tables: &mut Tables, job: usize) {
+pub(crate) fn put_good_job(dice: &mut Dice, tables: &mut Tables, job: usize) {
     let (mode, flag) = (dice.pick(&[0, PREFERRED, BIND, BIND, INTERLEAVE, LIST, LIST, RING, EARLY]), dice.below(3));
     let mut record = good_record(dice, tables.counts.len(), mode, flag as u8);
     let misses = record[1] & !record[2];

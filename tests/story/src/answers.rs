@@ -27,6 +27,7 @@ pub fn refusal_words(number: u8) -> &'static str {
         14 => "a free count disagrees with the page table",
         15 => "the map, or the list of nodes, isn't a good one",
         16 => "the note, or a list of names, isn't a good one",
+        17 => "a page has nowhere to go",
         _ => "a number that the papers do not have",
     }
 }
@@ -39,12 +40,13 @@ pub struct Reply {
     pub page: u32,
 }
 
-/// What is told of a line: a call's answer, words, or the reason of each node.
+/// What is told of a line: a call's answer, words, the reason of each node, or a drain's pairs, old page and new.
 #[derive(Clone, Debug, PartialEq, Eq)]
 pub enum Told {
     Reply(Reply),
     Words(String),
     Reasons(Vec<u8>),
+    Moves(Vec<[u32; 2]>),
 }
 
 /// The kind that answers a call: its record's own.
@@ -99,6 +101,24 @@ fn reason_words(reasons: &[u8]) -> Result<(Vec<&'static str>, String), String> {
     Ok((words, chosen.map_or(String::from("no node would serve"), |node| format!("node {node} would serve"))))
 }
 
+/// A drain's pairs in words, entered in the page table.
+fn move_words(pairs: &[[u32; 2]], pages: &mut [u8]) -> Result<String, String> {
+    let mut moves = Vec::new();
+    for pair in pairs {
+        let [old, new] = pair.map(|page| page as usize);
+        if old.max(new) >= pages.len() {
+            return Err(String::from("pages of this machine"));
+        }
+        (pages[new], pages[old]) = (pages[old], 0);
+        moves.push(format!("{old} to {new}"));
+    }
+    Ok(match moves.len() {
+        0 => String::from("no page to move"),
+        1 => format!("page {}", moves[0]),
+        _ => format!("pages {}", moves.join(", ")),
+    })
+}
+
 /// The script told so far.
 struct Telling<'a> {
     script: &'a Script,
@@ -124,6 +144,7 @@ impl Telling<'_> {
                 why = words;
                 answer
             }
+            (Told::Moves(pairs), Step::Drain { .. }) => move_words(pairs, &mut self.pages)?,
             (Told::Words(words), step) if !matches!(step, Step::Call(_)) => words.clone(),
             _ => return Err(String::from("an answer for a call, words for another line")),
         };

@@ -1,4 +1,4 @@
-//! One line of a script after the machine: a call, names, a note or a question.
+//! One line of a script after the machine: a call, a drain, names, a note or a question.
 
 use reference::calls::{Call, Tables};
 use reference::maps::{application_node, entries, map_of};
@@ -10,7 +10,8 @@ use spirerivet::which;
 use crate::script::Step;
 
 /// What a line begins with.
-const CALLS: &str = "`request`, `release`, `rebind`, `install`, `clear`, `map`, `keep`, `names`, `note` or `why`";
+const CALLS: &str =
+    "`request`, `release`, `rebind`, `install`, `clear`, `map`, `keep`, `drain`, `names`, `note` or `why`";
 const MODES: &str = "a mode: `default`, `preferred`, `bind`, `interleave`, `list`, `ring` or `early`, or `note`";
 
 /// A plain number up to a limit.
@@ -120,6 +121,8 @@ pub fn read_step(words: &[&str], book: &Tables) -> Result<Step, String> {
         ["install", _, "note", ..] => Err(String::from("`text` or `data` after `note`")),
         ["why", job, "cpu", cpu] => Ok(Step::Why { job: job_of(job)?, cpu: cpu_of(cpu)? }),
         ["why", ..] => Err(String::from("`why JOB cpu CPU`")),
+        ["drain", node] => Ok(Step::Drain { node: needed(node, "a node", 255)? as usize }),
+        ["drain", ..] => Err(String::from("`drain NODE`")),
         _ => read_call(words, book).map(Step::Call),
     }
 }

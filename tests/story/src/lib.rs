@@ -21,6 +21,7 @@
 //! note bash.memtypes              # a note in a file beside the script
 //! install 0 note text             # the note's text or data list as places; the default if it has none
 //! why 0 cpu 4                     # the reason of each node for a request that is not made
+//! drain 3                         # every page moves off a node, by the machine's number
 //! request 0 cpu 4
 //! release 0 page 5
 //! clear 0
@@ -30,7 +31,8 @@
 //! that line; `none` is the empty set. A relative mask may name 0 to 63.
 //! The node numbers of `install` and `keep` and of answers are the job's own;
 //! until a `map` line they are the machine's. What `why` tells has the
-//! machine's. A journal has no `map` or `keep`, no names and notes, and no `why`.
+//! machine's. A journal has no `map`, `keep` or `drain`, no names and notes, and
+//! no `why`.
 
 #![forbid(unsafe_code)]
 

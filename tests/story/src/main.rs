@@ -10,7 +10,7 @@ use story::script::{journal, read_script, Script};
 
 const USAGE: &str = "usage:
   story run SCRIPT                   the script run by the library, with its answers, and the nodes as they fill up
-  story journal < SCRIPT > JOURNAL   a script without `map`, `keep`, `names`, notes and `why` as a journal
+  story journal < SCRIPT > JOURNAL   a script without `map`, `keep`, `drain`, `names`, notes and `why` as a journal
   story answers SCRIPT < ANSWERS     the script with a journal's answers, and the nodes as they fill up";
 
 fn main() -> ExitCode {

@@ -1,4 +1,4 @@
-//! A script run by the proved library: its calls by replays, its notes and questions by the calls for them.
+//! A script run by the proved library: its calls by replays, its drains, notes and questions by the calls for them.
 
 use hosts::words;
 use reference::calls::{Call, Tables};
@@ -102,6 +102,16 @@ impl Run<'_> {
         }
     }
 
+    /// The pairs of a drain, or the refusal.
+    fn drain(&mut self, node: usize) -> Told {
+        let Tables { counts, distances, pages, jobs, free, maps, .. } = &mut self.tables;
+        let mut moves = vec![[0; 2]; counts.get(node).map_or(0, |count| *count as usize)];
+        match spirerivet::drain(counts, distances, pages, jobs, free, maps, node, moves.as_flattened_mut()) {
+            Ok(moved) => Told::Moves(moves[..moved].to_vec()),
+            Err(refusal) => Told::Words(refused_words(refusal.number())),
+        }
+    }
+
     /// Makes lines that are all calls, or one that is none.
     fn lines(&mut self, lines: &[Line]) -> Result<Vec<Told>, String> {
         let words = match &lines[0].step {
@@ -114,6 +124,7 @@ impl Run<'_> {
             Step::NoteFile(file) => self.read_note(file)?,
             Step::InstallNote { job, which } => self.install_note(*job, *which)?,
             Step::Why { job, cpu } => return Ok(vec![self.why(*job, *cpu)]),
+            Step::Drain { node } => return Ok(vec![self.drain(*node)]),
         };
         Ok(vec![Told::Words(words)])
     }

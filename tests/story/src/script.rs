@@ -29,6 +29,10 @@ pub enum Step {
         job: usize,
         cpu: usize,
     },
+    /// All pages of a node moved off it, with room for as many pairs as it has pages.
+    Drain {
+        node: usize,
+    },
 }
 
 /// A line, as written.
@@ -114,7 +118,7 @@ pub fn read_script(text: &str) -> Result<Script, Fault> {
     let mut read = Vec::new();
     for line in reader.lines {
         let step = read_step(&line.words, &book).map_err(|expected| line.fault(expected))?;
-        // A policy by a note changes neither what the job is allowed nor its map, and `why` changes nothing.
+        // A policy by a note and a drain change neither what a job is allowed nor its map, and `why` changes nothing.
         if let Step::Call(call) = &step {
             apply(&mut book, call);
         }
@@ -123,12 +127,12 @@ pub fn read_script(text: &str) -> Result<Script, Fault> {
     Ok(Script { name, machine, lines: read, folder: PathBuf::new() })
 }
 
-/// The journal of a script, which may have no call of maps, no names and notes, and no `why`.
+/// The journal of a script, which may have no call of maps, no drain, no names and notes, and no `why`.
 pub fn journal(script: &Script) -> Result<Vec<u8>, Fault> {
     let mut bytes = machine_bytes(&script.machine);
     for line in &script.lines {
         match line.call() {
-            Some(call) if !call.is_of_maps() => bytes.extend(call_bytes(call)),
+            Some(call) if call.is_of_journals() => bytes.extend(call_bytes(call)),
             _ => {
                 let expected = String::from("a call that a journal has (`story run` takes every script)");
                 return Err(Fault { line: line.number, expected, found: format!("`{}`", line.text) });

@@ -4,6 +4,7 @@ use std::io::Write;
 use std::process::{Command, Stdio};
 
 use reference::calls::{apply, Answer, Call, Tables};
+use reference::drain::drain_pairs;
 use reference::journal::{read_journal, run};
 use reference::notes::{name, note_places, write_note};
 use reference::reasons::write_reasons;
@@ -49,6 +50,7 @@ fn reply(tables: &mut Tables, call: &Call) -> Reply {
     let (refusal, node, page) = match apply(tables, call) {
         Answer::Granted { node, page } => (0, node.0, page),
         Answer::Released { node, page } => (0, node.map_or(0xFF, |node| node.0), page),
+        Answer::Drained { moves } => (0, 0xFF, moves),
         Answer::Done => (0, 0xFF, u32::MAX),
         Answer::Refused(number) => (number, 0xFF, u32::MAX),
     };
@@ -87,6 +89,10 @@ impl Book {
                 let nodes = write_reasons(&self.tables, *job, *cpu, &mut out)?;
                 Ok(Told::Reasons(out[..nodes].to_vec()))
             }
+            Step::Drain { node } => {
+                let pairs = drain_pairs(&mut self.tables, *node, usize::MAX)?;
+                Ok(Told::Moves(pairs.chunks(2).map(|pair| [pair[0], pair[1]]).collect()))
+            }
             _ => self.words(step).map(Told::Words),
         }
     }
@@ -94,7 +100,7 @@ impl Book {
     /// What a line of names or notes does.
     fn words(&mut self, step: &Step) -> Result<String, u8> {
         match step {
-            Step::Call(_) | Step::Why { .. } => panic!("{step:?}"),
+            Step::Call(_) | Step::Why { .. } | Step::Drain { .. } => panic!("{step:?}"),
             Step::Names(names) => {
                 self.places(names, &[0; 16], 0, 0)?;
                 self.names = names.clone();
@@ -197,7 +203,10 @@ fn is_bad(line: &str, expected: &str) {
 #[test]
 fn bad_lines_say_where_and_what() {
     for (line, expected) in [
-        ("ask 0", "`request`, `release`, `rebind`, `install`, `clear`, `map`, `keep`, `names`, `note` or `why`"),
+        (
+            "ask 0",
+            "`request`, `release`, `rebind`, `install`, `clear`, `map`, `keep`, `drain`, `names`, `note` or `why`",
+        ),
         ("note", NOTES),
         ("note A B", NOTES),
         ("install 0 note", "`text` or `data` after `note`"),
@@ -236,6 +245,11 @@ fn bad_questions_say_where_and_what() {
     for line in ["why", "why 0", "why 0 1", "why 0 cpu", "why 0 cpu 1 2", "why 0 page 1"] {
         is_bad(line, "`why JOB cpu CPU`");
     }
+    for line in ["drain", "drain 1 2", "drain 1 cpu 2"] {
+        is_bad(line, "`drain NODE`");
+    }
+    is_bad("drain 256", "a node from 0 to 255 in place of `256`");
+    is_bad("drain 1-2", "a node from 0 to 255 in place of `1-2`");
     is_bad("why 256 cpu 0", "a job from 0 to 255 in place of `256`");
     is_bad("why 0 cpu 256", "a CPU from 0 to 255 in place of `256`");
 }
@@ -308,6 +322,25 @@ fn the_story_of_a_node_that_holds_no_page() {
         fault,
         "line 13: expected a call that a journal has (`story run` takes every script), found `why 0 cpu 2`"
     );
+}
+
+#[test]
+fn the_story_of_a_board_that_is_pulled() {
+    let (script, told) = (include_str!("../scripts/drain.txt"), include_str!("../scripts/drain.told.txt"));
+    assert_eq!(by_the_rules(script), told);
+    let script = read_script(script).unwrap();
+    assert_eq!(story::run::run(&script).unwrap(), told);
+    let drained: Vec<&str> = told.lines().filter(|line| line.contains("drain")).collect();
+    let ends = ["refused 17: a page has nowhere to go", "pages 4 to 0, 5 to 8, 6 to 2, 7 to 1", "no page to move"];
+    assert_eq!(drained.len(), ends.len());
+    for (line, end) in drained.iter().zip(ends) {
+        assert!(line.ends_with(end), "{line}");
+    }
+    assert_eq!(told.lines().filter(|line| line.starts_with("node  1  0 of 4 held")).count(), 1);
+    let fault = journal(&script).unwrap_err().to_string();
+    assert!(fault.starts_with("line 16: expected a call that a journal has"), "{fault}");
+    let fault = journal(&read_script(&on_a("drain 0\n")).unwrap()).unwrap_err().to_string();
+    assert!(fault.starts_with("line 8: expected a call that a journal has"), "{fault}");
 }
 
 /// The same script without its `why` lines leaves the same nodes and gets the same answers.
@@ -408,7 +441,7 @@ fn bad_replies_say_where_and_what() {
     assert_eq!(message(far), "answer 1 (line 9): expected a page of this machine");
     let words = Told::Words(String::from("done"));
     let reasons = Told::Reasons(vec![6, 7, 5, 7]);
-    for told in [words, reasons.clone()] {
+    for told in [words, reasons.clone(), Told::Moves(vec![])] {
         assert_eq!(message(told), "answer 1 (line 9): expected an answer for a call, words for another line");
     }
     let why = read_script(&on_a("why 0 cpu 0\n")).unwrap();
@@ -417,6 +450,12 @@ fn bad_replies_say_where_and_what() {
     assert_eq!(told(&[6, 7, 8, 7]).unwrap_err(), "answer 0 (line 8): expected reasons from 1 to 7");
     for wrong in [told(&[6, 7, 5]), told_lines(&why, &[done])] {
         assert_eq!(wrong.unwrap_err(), "answer 0 (line 8): expected an answer for a call, words for another line");
+    }
+    let drain = read_script(&on_a("drain 0\n")).unwrap();
+    let told = |pairs: &[[u32; 2]]| told_lines(&drain, &[Told::Moves(pairs.to_vec())]);
+    assert!(told(&[[0, 5]]).unwrap().contains("page 0 to 5\n"));
+    for far in [[0, 6], [6, 0], [u32::MAX, 0]] {
+        assert_eq!(told(&[far]).unwrap_err(), "answer 0 (line 8): expected pages of this machine");
     }
 }
 
@@ -508,6 +547,10 @@ fn the_program() {
     let (good, lines, _) = program(&["run", why], b"");
     assert!(good);
     assert_eq!(lines, include_bytes!("../scripts/why.told.txt"));
+    let drain = concat!(env!("CARGO_MANIFEST_DIR"), "/scripts/drain.txt");
+    let (good, lines, _) = program(&["run", drain], b"");
+    assert!(good);
+    assert_eq!(lines, include_bytes!("../scripts/drain.told.txt"));
     let (good, nothing, message) = program(&["journal"], include_bytes!("../scripts/maps.txt"));
     assert!(!good && nothing.is_empty());
     assert!(message.starts_with("line 12: expected a call that a journal has"), "{message}");

@@ -6,7 +6,8 @@ use Rattle.rules.specs.Machine.{Machine}
 use Rattle.rules.specs.Calls.{Tables, tablesOf}
 use Rattle.rules.proofs.InOrder.{release-ok, fresh-ok, mapped-ok, record-ok}
 use Rattle.machine.specs.Tables.{machineOf}
-use Rattle.book.proofs.Steps.{did-request, did-release, did-rebind, did-install, did-clear, did-fresh, did-keep, did-set}
+use Rattle.drain.proofs.Lent.{drain-ok}
+use Rattle.book.proofs.Steps.{did-request, did-release, did-rebind, did-install, did-clear, did-fresh, did-keep, did-set, did-drain}
 use Rattle.book.proofs.perform.Statement.{statement}
 use Rattle.book.proofs.perform.Tie as tie
 
@@ -98,6 +99,18 @@ returns-8 c =
     let b = start (d .before .before .before .before .before .before) in
     (λ x s. did-set _ (tables b) _ _ _ _ _ x s (d .before .before .before .before .call7 .given .1) (λ l n. d .set .ensures (tables b) l n), b .pre .2)
 
+drain-node-requires : tie.Need-drain-node-requires
+drain-node-requires c κs =
+    let s = start (c .before .before .before .before .before .before .before .before) in
+    (drain-ok (machine s) (tables s) (s .pre .0), s .pre .1, s .pre .2)
+
+returns-9 : tie.Need-returns-9
+returns-9 c =
+    let d = c .before .before .before .before in (
+      λ x s. did-drain _ _ _ _ _ _ _ x s (d .before .before .before .before .before .before .before .call8 .given .1) (d .drain-node .ensures .0),
+      d .drain-node .ensures .1,
+    )
+
 pub perform-spec : {M : Type 1} → statement M
 perform-spec =
     tie.close
@@ -118,6 +131,8 @@ perform-spec =
     keep-requires
     (search needs)
     set-requires
+    (search needs)
+    drain-node-requires
     (search needs) (search needs) (search needs) (search needs)
     returns
     (search needs) (search needs) (search needs) (search needs)
@@ -133,4 +148,6 @@ perform-spec =
     (search needs) (search needs)
     returns-7
     (search needs) (search needs)
-    returns-8)
+    returns-8
+    (search needs) (search needs) (search needs) (search needs)
+    returns-9)

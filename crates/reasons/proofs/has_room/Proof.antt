@@ -5,7 +5,8 @@ use mathlib.Core.Path.{_∙_}
 use native.Mathlib.Omega.{arith}
 use borrow.Author.Needs.{needs}
 use lib.ListN.{length, getD}
-use Rattle.reasons.proofs.Room.{inside, room-is}
+use Rattle.placement.proofs.Grants.{inside}
+use Rattle.reasons.proofs.Room.{room-is}
 use Rattle.reasons.proofs.has_room.Statement.{statement}
 use Rattle.reasons.proofs.has_room.Tie as tie
 

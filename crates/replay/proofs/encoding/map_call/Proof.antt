@@ -31,12 +31,12 @@ long c = ap length (read-at c .list-in .ensures) ∙ bytes-64 (start c .args .ca
 returns : tie.Need-returns
 returns c =
     let call = start (c .before) .args .call .now in
-    (λ places x l e. (listIn call, says-keep call x e (c .if1 .taken), held (c .before)), long (c .before))
+    (λ places x l m e. (listIn call, says-keep call x e (c .if1 .taken), held (c .before)), long (c .before))
 
 returns-2 : tie.Need-returns-2
 returns-2 c =
     let call = start (c .before) .args .call .now in
-    (λ places x l e. (listIn call, says-set call x e l (c .if1 .left), held (c .before)), long (c .before))
+    (λ places x l m e. (listIn call, says-set call x e l m (c .if1 .left), held (c .before)), long (c .before))
 
 pub map-call-spec : {M : Type 1} → statement M
 map-call-spec = tie.close (tie.spec (λ c κs. search needs) (search needs) (search needs) (search needs) returns returns-2)

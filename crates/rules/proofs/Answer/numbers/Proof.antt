@@ -20,10 +20,14 @@ returns-3 c = rw (c .before .enum-told .given .1) (c .of3 .ensures)
 
 returns-4 : tie.Need-returns-4
 unfolding numbers
-returns-4 c = rw (c .before .before .before .self3 .given .1, sym (c .before .number .ensures)) (c .of4 .ensures)
+returns-4 c = rw (c .before .before .self3 .given .1) (c .of4 .ensures)
+
+returns-5 : tie.Need-returns-5
+unfolding numbers
+returns-5 c = rw (c .before .before .before .self4 .given .1, sym (c .before .number .ensures)) (c .of5 .ensures)
 
 pub numbers-spec : {M : Type 1} → statement M
 numbers-spec =
     tie.close
     (tie.spec (search needs) (search needs) (search needs) (search needs) (search needs) (search needs) (search needs) (search needs) (search needs)
-    returns returns-2 returns-3 returns-4)
+    (search needs) (search needs) returns returns-2 returns-3 returns-4 returns-5)

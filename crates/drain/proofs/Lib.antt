@@ -1,0 +1,12 @@
+pub mod Open
+pub mod Holders
+pub mod Targets
+pub mod Reached
+pub mod Pairs
+pub mod Passes
+pub mod Matching
+pub mod Within
+pub mod Carried
+pub mod Moved
+pub mod Going
+pub mod Lent

@@ -1,0 +1,4 @@
+pub mod Goals
+pub mod Reached
+pub mod Moving
+pub mod Outcomes
