@@ -101,11 +101,10 @@ def turn(t, path, names, edit=False):
         code, said = split_comment(line, mark)
         said = re.sub(r"`[^`]*`", lambda q: NAME.sub(word, q[0]), said)
         said = NAME.sub(lambda m: word(m) if re.search(r"[a-z0-9'][A-Z]", m[0]) else m[0], said)
-        code = NAME.sub(word, code)
         for old, new, where in FALLEN:
             if re.search(where, path):
                 code = re.sub(rf"(?<![\w.'-]){old}(?![\w'-])", new, code)
-        out.append(code + said)
+        out.append(NAME.sub(word, code) + said)
     return "\n".join(out)
 
 

@@ -1,5 +1,7 @@
 // The book: one call, by value, on the lent tables.
 
+#![tactic(auto)]
+
 ghost use Rattle.std.specs.Prelude.{true, ◌≡◌};
 ghost use Rattle.rules.specs.Answers.{answer_of};
 ghost use Rattle.rules.specs.Calls.{tables_of, outcome, request_tables_ok};

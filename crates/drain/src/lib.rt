@@ -1,5 +1,7 @@
 // Drain a board: request M-107. Its definitions are in crates/rules/specs/Drain.antt.
 
+#![tactic(auto)]
+
 ghost use Rattle.std.specs.Prelude.{true, ◌≡◌, ◌<◌, length, List, ℕ};
 ghost use Rattle.rules.specs.Answers.{decision_of};
 ghost use Rattle.rules.specs.Calls.{tables_of, mapped_tables_ok};

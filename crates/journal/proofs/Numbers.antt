@@ -11,21 +11,21 @@ use lib.ListN.{length, get_or, take, drop, length-take, length-drop}
 use lib.Pow.{pow-add, shl_exact}
 use lib.Dec.{leb}
 use lib.Seq.{take-add, take-take, drop-drop, drop-cons}
-use Rattle.rules.specs.Records.{from_bytes_lem}
+use Rattle.rules.specs.Records.{from_bytes}
 use Rattle.rules.specs.Journal.{part, number}
 use Rattle.rules.proofs.Lists.{same_test}
 
 -- ---- parts
 
 -- the number of two lists of bytes end to end: the second stands above the first
-pub from_append : (xs ys : List ℕ) → from_bytes_lem (xs ++ ys) ≡ from_bytes_lem ys * 2 ^ (8 * length xs) + from_bytes_lem xs
-unfolding from_bytes_lem
+pub from_append : (xs ys : List ℕ) → from_bytes (xs ++ ys) ≡ from_bytes ys * 2 ^ (8 * length xs) + from_bytes xs
+unfolding from_bytes
 from_append [] ys = omega arith
 from_append (x ∷ xs) ys =
     let e : 8 * suc (length xs) ≡ 8 * length xs + 8 = omega arith in
     let p = 2 ^ (8 * length xs) in
-    let ih : from_bytes_lem (xs ++ ys) ≡ from_bytes_lem ys * p + from_bytes_lem xs = from_append xs ys in
-    let s : from_bytes_lem ys * (p * 2 ^ 8) ≡ from_bytes_lem ys * p * 256 = sym (mul_assoc (from_bytes_lem ys) p 256) in
+    let ih : from_bytes (xs ++ ys) ≡ from_bytes ys * p + from_bytes xs = from_append xs ys in
+    let s : from_bytes ys * (p * 2 ^ 8) ≡ from_bytes ys * p * 256 = sym (mul_assoc (from_bytes ys) p 256) in
     rw (e, pow-add 2 (8 * length xs) 8) (omega arith)
 
 -- a part, and the part after it
@@ -59,13 +59,13 @@ part_take (suc w) (suc k) n (b ∷ bs) h = part_take w k n bs (omega arith)
 -- a number in them is that number in all
 pub number_take : (w k n : ℕ) (bs : List ℕ) → k + n ≤ w → number k n (take w bs) ≡ number k n bs
 unfolding number
-number_take w k n bs h = ap from_bytes_lem (part_take w k n bs h)
+number_take w k n bs h = ap from_bytes (part_take w k n bs h)
 
 -- ---- numbers by halves
 
 -- the number of one byte is the byte
 pub number_one : (k : ℕ) (bs : List ℕ) → k < length bs → number k 1 bs ≡ get_or bs k 0
-unfolding number part from_bytes_lem
+unfolding number part from_bytes
 number_one k bs h = rw (drop-cons bs k 0) (omega arith)
 
 -- a number of 2 n bytes is its lower n bytes and, shifted above them, its higher n bytes

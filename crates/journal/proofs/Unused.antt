@@ -12,7 +12,7 @@ use lib.ListN.{length, take, drop}
 use lib.Pow.{high}
 use lib.Seq.{drop-cons}
 use Rattle.rules.specs.Basics.{all, from, all_at}
-use Rattle.rules.specs.Records.{from_bytes_lem}
+use Rattle.rules.specs.Records.{from_bytes}
 use Rattle.rules.specs.Journal.{Kind, request', release', rebind', install', clear', byte_at, part, number, size_of, used, unused_bytes_zero}
 use Rattle.rules.proofs.Bytes.{AreBytes, from_bytes_lt, take_bytes, drop_bytes}
 use Rattle.journal.specs.Reads.{zeroed}
@@ -30,7 +30,7 @@ zero_digit x b = go (eqb b 0) refl (eqb x 0) refl
 
 -- a number is zero exactly when its bytes are
 number_zero : (n k : ℕ) (bs : List ℕ) → k + n ≤ length bs → eqb (number k n bs) 0 ≡ zeroed k n bs
-unfolding number part from_bytes_lem zeroed all from
+unfolding number part from_bytes zeroed all from
 number_zero zero k bs h = refl
 number_zero (suc n) k bs h =
     rw (drop-cons bs k 0 (omega arith))
@@ -43,9 +43,9 @@ unfolding number part
 shifted_zero at k bs h l m =
     let e : k + (8 - k) ≡ 8 = omega arith in
     let n : length (part at k bs) ≡ k = part_length at k bs (omega arith) in
-    let low : from_bytes_lem (part at k bs) < 2 ^ (8 * k) = rw n at (from_bytes_lt (part at k bs) (take_bytes k (drop at bs) (drop_bytes at bs h))) in
+    let low : from_bytes (part at k bs) < 2 ^ (8 * k) = rw n at (from_bytes_lt (part at k bs) (take_bytes k (drop at bs) (drop_bytes at bs h))) in
     let s : number at 8 bs ≡ number (at + k) (8 - k) bs * 2 ^ (8 * k) + number at k bs =
-    ap (λ (x : ℕ). number at x bs) (sym e) ∙ ap from_bytes_lem (part_add at k (8 - k) bs) ∙ rw n at (from_append (part at k bs) (part (at + k) (8 - k) bs)) in
+    ap (λ (x : ℕ). number at x bs) (sym e) ∙ ap from_bytes (part_add at k (8 - k) bs) ∙ rw n at (from_append (part at k bs) (part (at + k) (8 - k) bs)) in
     ap (λ (x : ℕ). eqb (x / 2 ^ (8 * k)) 0) s ∙ ap (λ (x : ℕ). eqb x 0) (high (number (at + k) (8 - k) bs) (8 * k) low)
     ∙ number_zero (8 - k) (at + k) bs (omega arith)
 

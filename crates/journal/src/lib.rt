@@ -1,5 +1,7 @@
 // The journal program: document 01, "The journal program". Its bytes, its records, and a whole journal.
 
+#![tactic(auto)]
+
 ghost use Rattle.std.specs.Prelude.{◌≡◌, cond, ◌++◌, ◌*◌, ◌≤◌, ◌<◌, ltb, length, drop, replicate};
 ghost use Rattle.rules.specs.Decisions.{accept};
 ghost use Rattle.rules.specs.Masks.{most_nodes};
@@ -100,7 +102,7 @@ pub fn journal(input: &[u8], output: &mut [u8]) -> Decision
                 return Decision::Refuse(Refusal::OutputTooShort);
             }
             let fault = answer::fault(why);
-            Decision::Accept(bytes::copy(&fault, output) as u64)
+            Decision::Accept(rules::copy(&fault, output) as u64)
         }
     }
 }

@@ -143,6 +143,6 @@ pub fn places_in(bytes: &[u8]) -> [u8; PLACES_PER_JOB]
     ensures { result ≡ part 16 places_per_job bytes.now }
 {
     let mut places = [0u8; PLACES_PER_JOB];
-    bytes::copy(&bytes[16..32], &mut places);
+    rules::copy(&bytes[16..32], &mut places);
     places
 }

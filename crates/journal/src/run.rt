@@ -66,7 +66,7 @@ fn run_record(
             let bytes = line(kind, answer);
             Part {
                 read: size,
-                written: bytes::copy(&bytes, output),
+                written: rules::copy(&bytes, output),
                 more: true,
             }
         }
@@ -74,7 +74,7 @@ fn run_record(
             let bytes = fault(Refusal::DamagedJournal);
             Part {
                 read: 0,
-                written: bytes::copy(&bytes, output),
+                written: rules::copy(&bytes, output),
                 more: false,
             }
         }

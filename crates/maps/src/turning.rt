@@ -144,5 +144,5 @@ pub fn store(maps: &mut [u8], job: usize, bytes: [u8; MAP_BYTES])
 {
     let start = MAP_BYTES * job;
     let end = start + MAP_BYTES;
-    bytes::copy(&bytes, &mut maps[start..end]);
+    rules::copy(&bytes, &mut maps[start..end]);
 }

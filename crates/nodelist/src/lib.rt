@@ -1,5 +1,7 @@
 // Node-list text: document 01, "Node-list text".
 
+#![tactic(auto)]
+
 ghost use Rattle.std.specs.Prelude.{◌≡◌};
 ghost use Rattle.rules.specs.Text.{read_text, write_text};
 ghost use Rattle.rules.specs.Answers.{decision_of};

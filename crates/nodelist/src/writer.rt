@@ -98,6 +98,6 @@ pub fn write_text(mask: Mask, out: &mut [u8]) -> Decision
     if len - 1 > out.len() {
         return Decision::Refuse(Refusal::OutputTooShort);
     }
-    let size = bytes::copy(&line[1..len], out);
+    let size = rules::copy(&line[1..len], out);
     Decision::Accept(size as u64)
 }

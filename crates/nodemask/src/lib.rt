@@ -1,5 +1,7 @@
 // Masks of nodes, and sets of ranks: document 01, "Masks". Bit n of a mask stands for node n.
 
+#![tactic(auto)]
+
 ghost use Rattle.std.specs.Prelude.{◌≡◌, ◌-◌, ◌^◌, ◌<◌, ◌≤◌};
 ghost use Rattle.rules.specs.Machine.{nodes_ok};
 ghost use Rattle.rules.specs.Masks.{most_nodes, has, is_empty, below, all_nodes, both, either, within, insert, rank, size, lowest, folded, remapped};

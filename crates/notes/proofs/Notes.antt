@@ -11,7 +11,7 @@ use lib.ListN.{length, take, drop, get_or, length-append, length-drop, take-appe
 use lib.Seq.{drop-cons, drop-drop, take-length}
 use borrow.Author.Tests.{eq-eqb, ne_eqb, le-leb, lt-leb, leb-true, eqb-true, ltb-true}
 use Rattle.rules.specs.Journal.{part, number}
-use Rattle.rules.specs.Records.{from_bytes_lem}
+use Rattle.rules.specs.Records.{from_bytes}
 use Rattle.rules.specs.Notes.{strings, size_of, list_ok, head_size, text_count, text_size, data_count, data_size, text_part, data_part, note_ok, all_names}
 use Rattle.rules.specs.Notes.{has_name, part_at, name_part, list_part}
 use Rattle.rules.proofs.Lists.{both_true}
@@ -23,7 +23,7 @@ use Rattle.notes.proofs.Starts.{string_length, strings_append}
 
 pub number_four : (bs : List ℕ) (at : ℕ) → at + 4 ≤ length bs
     → get_or bs at 0 + get_or bs (at + 1) 0 * 256 + get_or bs (at + 2) 0 * 65536 + get_or bs (at + 3) 0 * 16777216 ≡ number at 4 bs
-unfolding number part from_bytes_lem
+unfolding number part from_bytes
 number_four bs at l =
     rw (
       drop-cons bs at 0 (omega arith),

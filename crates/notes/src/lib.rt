@@ -1,5 +1,7 @@
 // Programs that name their memory: request M-104. Its definitions are in crates/rules/specs/Notes.antt.
 
+#![tactic(auto)]
+
 ghost use Rattle.std.specs.Prelude.{not, ◌≡◌, ◌+◌, ◌≤◌, length};
 ghost use Rattle.rules.specs.Answers.{decision_of, part_of};
 ghost use Rattle.rules.specs.Basics.{is_nil};

@@ -83,7 +83,7 @@ fn turn_list(nodes: usize, map: &[u8], table: &[u8], list: &[u8], out: &mut [u8]
     if out.len() < len {
         return Decision::Refuse(Refusal::OutputTooShort);
     }
-    let size = bytes::copy(&line[..len], out);
+    let size = rules::copy(&line[..len], out);
     Decision::Accept(size as u64)
 }
 

@@ -23,7 +23,7 @@ fn put_bytes(src: &[u8], out: &mut [u8], at: usize)
     requires { at + length src.now ≤ length out.old }
     ensures { out.new ≡ sets out.old at src.now }
 {
-    bytes::copy(src, &mut out[at..]);
+    rules::copy(src, &mut out[at..]);
 }
 
 // Puts the note of two lists, with their numbers of names, at the start of the output.

@@ -1,6 +1,8 @@
 // The page picker: of a node's part of the page table, the lowest free page of the job's colour, or else the lowest free page, found and
 // marked.
 
+#![tactic(auto)]
+
 ghost use Rattle.std.specs.Prelude.{◌≡◌, false, not, cond, ℕ, ◌+◌, ◌^◌, ◌%◌, ◌≤◌, ◌<◌, eqb, length, get_or, drop};
 ghost use Rattle.rules.specs.Basics.{first, is_nil};
 ghost use Rattle.pages.specs.FirstZero.{offset_of, shift, first_zero, mark, has_zero, zero_or_end, zeros};

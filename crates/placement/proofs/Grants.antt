@@ -17,7 +17,7 @@ use Rattle.rules.specs.Machine.{first_page, pages_of, node_of_page}
 use Rattle.rules.specs.Records.{record_at, put_record, with_turn}
 use Rattle.rules.specs.SearchOrder.{Try, free_pages, has_room, colour_of, has_colour, pick_page, counted, chosen}
 use Rattle.rules.specs.Maps.{application_node}
-use Rattle.rules.specs.Calls.{granted, refused, Tables, tables_of, outcome, after_writes, after_stores, after_remaps, applied, map_of, count_fits_lem, serve}
+use Rattle.rules.specs.Calls.{granted, refused, Tables, tables_of, outcome, after_writes, after_stores, after_remaps, applied, map_of, count_fits, serve}
 use Rattle.rules.proofs.Lists.{same_test, keep_agree, keep_member, from_member, first_keep, in_table_lem, sum_take_suc, sum_take_le}
 use Rattle.rules.proofs.Pages.{page_node}
 use Rattle.rules.proofs.Picked.{picked_page}
@@ -191,12 +191,12 @@ chose counts free ts s e h =
 
 module _ (counts free : List ℕ) (n : ℕ) where
   -- M-100: "a release that would take a count above the node's pages"
-  pub count_full : get_or counts n 0 ≤ get_or free n 0 → count_fits_lem counts free n ≡ false
-  unfolding count_fits_lem
+  pub count_full : get_or counts n 0 ≤ get_or free n 0 → count_fits counts free n ≡ false
+  unfolding count_fits
   count_full h = lt-leb (get_or free n 0 + 1) (get_or counts n 0) (omega arith)
 
-  pub count_fits_lem : get_or free n 0 < get_or counts n 0 → count_fits_lem counts free n ≡ true
-  unfolding count_fits_lem
+  pub count_fits_lem : get_or free n 0 < get_or counts n 0 → count_fits counts free n ≡ true
+  unfolding count_fits
   count_fits_lem h = le-leb (get_or free n 0 + 1) (get_or counts n 0) (omega arith)
 
 -- ---- where a node's pages are

@@ -2,7 +2,7 @@
 use Rattle.std.specs.Prelude.{ℕ, ◌+◌, ◌*◌, ◌≤◌, ◌≡◌, List}
 use Rattle.rules.specs.Machine.{node_of_page}
 use Rattle.rules.specs.Maps.{map_size, application_node}
-use Rattle.rules.specs.Calls.{Answer, granted, released, refused, Tables, Change, freeing, holds, count_fits_lem}
+use Rattle.rules.specs.Calls.{Answer, granted, released, refused, Tables, Change, freeing, holds, count_fits}
 use Rattle.rules.specs.Decisions.{Decision, accept, unless}
 use Rattle.rules.specs.Answers.{number_of}
 use Rattle.placement.specs.declared.placed.Placed.{Placed}
@@ -30,5 +30,5 @@ HasMap bytes j (Refused why) = Unit {0}
 abbrev pub release_tests : List ℕ → Tables → ℕ → ℕ → Decision Change
 release_tests counts t j p =
     unless (holds counts t.ledger j p) 10
-    (unless (count_fits_lem counts t.free (node_of_page counts p)) 14
+    (unless (count_fits counts t.free (node_of_page counts p)) 14
     (accept (freeing counts t j p)))

@@ -1,5 +1,7 @@
 // Requests and releases of single pages, and the fresh table: document 01, "Search order" and "Refusal numbers", and request M-100.
 
+#![tactic(auto)]
+
 ghost use Rattle.std.specs.Prelude.{true, ◌&&◌, List, ◌≡◌, ℕ, ◌<◌, leb, length, replicate};
 ghost use Rattle.rules.specs.Basics.{sum};
 ghost use Rattle.rules.specs.Machine.{node_of_page};

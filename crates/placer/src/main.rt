@@ -1,6 +1,8 @@
 // The journal program: document 01, "The journal program". Standard input to standard output; the whole records that have arrived are
 // answered without waiting for more.
 
+#![tactic(auto)]
+
 ghost use Rattle.std.specs.Prelude.{◌≡◌, length};
 ghost use Rattle.rules.specs.Decisions.{accept};
 ghost use Rattle.rules.specs.Journal.{machine_size, opening};

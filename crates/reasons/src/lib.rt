@@ -1,5 +1,7 @@
 // Why this node? Request M-106: the reason of each node at a request. Its definitions are in crates/rules/specs/Reasons.antt.
 
+#![tactic(auto)]
+
 ghost use Rattle.std.specs.Prelude.{true, ◌≡◌, ◌≤◌, ◌<◌, length};
 ghost use Rattle.rules.specs.Answers.{decision_of};
 ghost use Rattle.rules.specs.Calls.{tables_of, request_tables_ok};

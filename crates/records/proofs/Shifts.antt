@@ -15,7 +15,7 @@ use lib.ListN.{length, get_or, take, drop, set, replicate, length-take, length-d
 use lib.Pow.{pow_mono, shr_lt, shr-shr}
 use lib.Seq.{drop-cons, get_or-drop, get_or-take, set-append_left, take_at, take_all, drop-append-add}
 use Rattle.rules.specs.Basics.{all}
-use Rattle.rules.specs.Records.{places_per_job, bytes_of, from_bytes_lem}
+use Rattle.rules.specs.Records.{places_per_job, bytes_of, from_bytes}
 use Rattle.rules.proofs.Bytes.{AreBytes, bytes_length, bytes_at, from_bytes_lt, take_bytes, drop_bytes}
 use Rattle.rules.proofs.Lists.{both_true, both_hold, same_test}
 use Rattle.rules.proofs.Records.{places_again}
@@ -74,22 +74,22 @@ unpacked low high = rw (whole low, whole high)
 
 -- one turn of the loop that packs: the places from i = j + 1 on are in, place j comes below them
 pub pack_step : (places : List ℕ) (from i j word : ℕ) → AreBytes places → length places ≡ 16 → from ≤ 8 → i ≡ j + 1 → i ≤ 8
-    → word ≡ from_bytes_lem (drop i (take 8 (drop from places)))
-    → bit_or ((word * 256) % 2 ^ 64) (get_or places (from + j) 0) ≡ from_bytes_lem (drop j (take 8 (drop from places)))
-unfolding from_bytes_lem
+    → word ≡ from_bytes (drop i (take 8 (drop from places)))
+    → bit_or ((word * 256) % 2 ^ 64) (get_or places (from + j) 0) ≡ from_bytes (drop j (take 8 (drop from places)))
+unfolding from_bytes
 pack_step places from i j word bytes l f s h e =
     let xs : List ℕ = take 8 (drop from places) in
     let len : length xs ≡ 8 = simp (length-take, length-drop) (omega arith) in
     let inside : j < length xs = omega arith in
     let rest : AreBytes (drop i xs) = drop_bytes i xs (take_bytes 8 (drop from places) (drop_bytes from places bytes)) in
     let at : get_or xs j 0 ≡ get_or places (from + j) 0 = get_or-take 8 (drop from places) j 0 (omega arith) ∙ get_or-drop from places j 0 in
-    let low : from_bytes_lem (drop i xs) < 2 ^ 56 =
+    let low : from_bytes (drop i xs) < 2 ^ 56 =
     lt_of_lt_of_le (from_bytes_lt (drop i xs) rest) (pow_mono {i = 8 * length (drop i xs)} {j = 56} (simp length-drop (omega arith))) in
     next_byte word (get_or places (from + j) 0) (rw e low) (bytes (from + j)) ∙ rw (drop-cons xs j 0 inside, at, e, s, add-one)
 
 -- sixteen places packed into two words are the places of these words
 pub packed : (places : List ℕ) (low high : ℕ) → length places ≡ places_per_job → AreBytes places
-    → low ≡ from_bytes_lem (take 8 places) → high ≡ from_bytes_lem (take 8 (drop 8 places)) → bytes_of 8 low ++ bytes_of 8 high ≡ places
+    → low ≡ from_bytes (take 8 places) → high ≡ from_bytes (take 8 (drop 8 places)) → bytes_of 8 low ++ bytes_of 8 high ≡ places
 packed places low high l bytes e f =
     let few : length (drop 8 places) ≤ 8 = simp length-drop (omega arith) in
     rw (e, f, take_all 8 (drop 8 places) few) (places_again places l bytes)

@@ -1,6 +1,8 @@
 // The job table and the calls that change it: install, rebind, clear; in `mapping` those that change a map. Each does what the rules say,
 // for any other tables beside it.
 
+#![tactic(auto)]
+
 ghost use Rattle.std.specs.Prelude.{true, ◌≡◌, ◌≤◌, ◌<◌, length};
 ghost use Rattle.rules.specs.Masks.{most_nodes};
 ghost use Rattle.rules.specs.Records.{Policy as Asked, policy, job_count, record_at};

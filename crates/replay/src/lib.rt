@@ -1,5 +1,7 @@
 // A list of encoded calls, run over lent tables.
 
+#![tactic(auto)]
+
 ghost use Rattle.std.specs.Prelude.{true, ◌≡◌, ℕ, ◌≤◌, length, replicate};
 ghost use Rattle.rules.specs.Answers.{decision_of};
 ghost use Rattle.rules.specs.Calls.{tables_of, request_tables_ok};

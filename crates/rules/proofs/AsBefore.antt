@@ -18,7 +18,7 @@ use Rattle.rules.specs.Decisions.{Decision, refuse, accept, unless, then}
 use Rattle.rules.specs.Calls.{Answer, granted, done, refused, Tables, tables_of, Change, after_writes, after_stores, after_remaps}
 use Rattle.rules.specs.Calls.{Outcome, outcome, applied}
 use Rattle.rules.specs.Calls.{granting, freeing, freeing_all}
-use Rattle.rules.specs.Calls.{is_job, is_cpu, is_mapped, free_ok, jobs_ok, request_tables_ok, fresh_tables_ok, release_tables_ok, holds, count_fits_lem, admitted}
+use Rattle.rules.specs.Calls.{is_job, is_cpu, is_mapped, free_ok, jobs_ok, request_tables_ok, fresh_tables_ok, release_tables_ok, holds, count_fits, admitted}
 use Rattle.rules.specs.Calls.{order_of, serve, request_decision, release_decision, fresh_decision, install_decision, rebind_decision, clear_decision}
 use Rattle.rules.specs.Calls.{keep_decision, set_map_decision, on_fresh}
 use Rattle.rules.specs.Drain.{Move, held_pages, moves, draining, drain_tables_ok, counts_match, moves_within, drain_moves, drain_decision}
@@ -129,11 +129,11 @@ module _ (counts : List ℕ) (t : Tables) (a : Matches counts t) where
     not_free : get_or t.ledger p 1 ≢ 0
     not_free z = let e = entry_same t.ledger p 0 1 in_ledger in omega arith
 
-    fits : count_fits_lem counts t.free (node_of_page counts p) ≡ true
-    unfolding count_fits_lem
+    fits : count_fits counts t.free (node_of_page counts p) ≡ true
+    unfolding count_fits
     fits = rw a (le-leb _ _ (count_within counts t.ledger (node_of_page counts p) p page_there in_ledger not_free))
 
-    freed_same : Same (unless (count_fits_lem counts t.free (node_of_page counts p)) 14 (accept (freeing counts t j p))) (accept (freeing counts t j p))
+    freed_same : Same (unless (count_fits counts t.free (node_of_page counts p)) 14 (accept (freeing counts t j p))) (accept (freeing counts t j p))
     unfolding after_writes
     freed_same =
         rw fits (same_change (freeing counts t j p)
@@ -309,7 +309,7 @@ module _ (m : Machine) (t : Tables) (a : Matches m.page_counts t) where
 
   -- nor by a release
   pub release_never_14 : (j p : ℕ) → (step m t (release j p)).answer ≡ refused 14 → ⊥
-  unfolding count_fits_lem
+  unfolding count_fits
   release_never_14 j p e =
       let w = (release_14 m t j p).0 e in
       let h = held_page m.page_counts t.ledger j p w.held in

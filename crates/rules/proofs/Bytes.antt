@@ -8,7 +8,7 @@ use native.Mathlib.Omega.{arith}
 use lib.ListN.{length, get_or, take, drop}
 use lib.Pow.{shr-shr, pow-add, mod-pow-add}
 use lib.Seq.{get_or-drop}
-use Rattle.rules.specs.Records.{bytes_of, from_bytes_lem}
+use Rattle.rules.specs.Records.{bytes_of, from_bytes}
 
 -- each of a list is a byte
 abbrev pub AreBytes : List ℕ → Type 0
@@ -37,35 +37,35 @@ bytes_small (suc k) x zero = omega arith
 bytes_small (suc k) x (suc i) = bytes_small k (x / 256) i
 
 -- the number of the k lowest bytes of x is what k bytes hold of x
-pub from_bytes_mod : (k x : ℕ) → from_bytes_lem (bytes_of k x) ≡ x % 2 ^ (8 * k)
-unfolding bytes_of from_bytes_lem
+pub from_bytes_mod : (k x : ℕ) → from_bytes (bytes_of k x) ≡ x % 2 ^ (8 * k)
+unfolding bytes_of from_bytes
 from_bytes_mod zero x = sym (mod-one x)
 from_bytes_mod (suc k) x =
     let e : 8 * suc k ≡ 8 * k + 8 = omega arith in
     ap (λ (y : ℕ). y * 256 + x % 256) (from_bytes_mod k (x / 256)) ∙ rw (e, mod-pow-add x (8 * k) 8)
 
 -- a number that fits k bytes is the number of them
-pub from_bytes_lem : (k x : ℕ) → x < 2 ^ (8 * k) → from_bytes_lem (bytes_of k x) ≡ x
+pub from_bytes_lem : (k x : ℕ) → x < 2 ^ (8 * k) → from_bytes (bytes_of k x) ≡ x
 from_bytes_lem k x h = from_bytes_mod k x ∙ mod-eq_of_lt h
 
 -- a list of bytes is the bytes of its number
-pub bytes_from : (bs : List ℕ) → AreBytes bs → bytes_of (length bs) (from_bytes_lem bs) ≡ bs
-unfolding bytes_of from_bytes_lem
+pub bytes_from : (bs : List ℕ) → AreBytes bs → bytes_of (length bs) (from_bytes bs) ≡ bs
+unfolding bytes_of from_bytes
 bytes_from [] h = refl
 bytes_from (b ∷ bs) h =
     let low : b < 256 = h 0 in
-    let first : (from_bytes_lem bs * 256 + b) % 256 ≡ b = omega arith in
-    let others : (from_bytes_lem bs * 256 + b) / 256 ≡ from_bytes_lem bs = omega arith in
+    let first : (from_bytes bs * 256 + b) % 256 ≡ b = omega arith in
+    let others : (from_bytes bs * 256 + b) / 256 ≡ from_bytes bs = omega arith in
     rw (first, others, bytes_from bs (λ k. h (suc k)))
 
 -- k bytes make a number that fits k bytes
-pub from_bytes_lt : (bs : List ℕ) → AreBytes bs → from_bytes_lem bs < 2 ^ (8 * length bs)
-unfolding from_bytes_lem
+pub from_bytes_lt : (bs : List ℕ) → AreBytes bs → from_bytes bs < 2 ^ (8 * length bs)
+unfolding from_bytes
 from_bytes_lt [] h = omega arith
 from_bytes_lt (b ∷ bs) h =
     let e : 8 * suc (length bs) ≡ 8 * length bs + 8 = omega arith in
     let low : b < 256 = h 0 in
-    let high : from_bytes_lem bs < 2 ^ (8 * length bs) = from_bytes_lt bs (λ k. h (suc k)) in
+    let high : from_bytes bs < 2 ^ (8 * length bs) = from_bytes_lt bs (λ k. h (suc k)) in
     rw (e, pow-add 2 (8 * length bs) 8) (omega arith)
 
 -- bytes but the first n are bytes

@@ -20,11 +20,11 @@ use Rattle.rules.specs.Records.{places_of, closes, record_at, put_record, fresh,
 use Rattle.rules.specs.Maps.{put_map, good_nodes, system_node, application_node, turned, keeps_of}
 use Rattle.rules.specs.SearchOrder.{Try, try, Plan, nearest, placed, closed, near, tried, target, interleaved, listed, plan_in, plan}
 use Rattle.rules.specs.SearchOrder.{mode_in_force, order}
-use Rattle.rules.specs.SearchOrder.{room_enough, pick_page, counted, chosen}
+use Rattle.rules.specs.SearchOrder.{has_room, pick_page, counted, chosen}
 use Rattle.rules.specs.Decisions.{Decision, refuse, accept, unless}
 use Rattle.rules.specs.Calls.{granted, released, refused, Tables, Write, write, Store, Remap, Change, after_writes, after_stores, after_remaps}
 use Rattle.rules.specs.Calls.{applied, granting, freeing, freeing_all, storing, mapping, map_of, is_job, is_mapped, fresh_tables_ok, release_tables_ok}
-use Rattle.rules.specs.Calls.{record_tables_ok, mapped_tables_ok, policy_known, install_fits, rebind_fits, holds, count_fits_lem, limit_of, order_of}
+use Rattle.rules.specs.Calls.{record_tables_ok, mapped_tables_ok, policy_known, install_fits, rebind_fits, holds, count_fits, limit_of, order_of}
 use Rattle.rules.specs.Calls.{release_decision, fresh_decision, install_decision, rebind_decision, clear_decision, keep_decision, set_map_decision}
 use Rattle.rules.specs.Drain.{Move, held_pages, moved, moves, move_writes, draining, drain_tables_ok, counts_match, moves_within, drain_moves, drain_decision}
 use Rattle.rules.specs.Book.{Call, request, release, install, rebind, clear, fresh_table, keep_nodes, set_map, drain, decision, step}
@@ -139,7 +139,7 @@ pub record ReleasePasses (counts : List ℕ) (t : Tables) (j p : ℕ) : Type 0 w
   pub job : is_job t.records j ≡ true
   pub mapped : is_mapped (length counts) t j ≡ true
   pub held : holds counts t.ledger j p ≡ true
-  pub fits : count_fits_lem counts t.free (node_of_page counts p) ≡ true
+  pub fits : count_fits counts t.free (node_of_page counts p) ≡ true
 
 pub releases : (counts : List ℕ) (t : Tables) (j p : ℕ) {x : Change} → release_decision counts t j p ≡ accept x
     → ReleasePasses counts t j p × (x ≡ freeing counts t j p)
@@ -149,7 +149,7 @@ releases counts t j p {x} e =
     let b = passed (is_job t.records j) 2 _ a.1 in
     let c = passed (is_mapped (length counts) t j) 15 _ b.1 in
     let d = passed (holds counts t.ledger j p) 10 _ c.1 in
-    let f = passed (count_fits_lem counts t.free (node_of_page counts p)) 14 _ d.1 in
+    let f = passed (count_fits counts t.free (node_of_page counts p)) 14 _ d.1 in
     let same : x ≡ freeing counts t j p = cc in
     (record { tables_ok = a.0; job = b.0; mapped = c.0; held = d.0; fits = f.0 }, same)
 
@@ -201,7 +201,7 @@ drains_so counts distances x t room {c} e =
 -- a map.
 pub data Accepted (m : Machine) (t : Tables) (c : Call) (x : Change) : Type 0 where
   grants : (j k : ℕ) (s : Try) → c ≡ request j k → Passes m t j k → chosen t.free (order_of m t j k) ≡ some s
-      → room_enough m.page_counts t.ledger s.node ≡ true → x ≡ granting m.page_counts t j s → Accepted m t c x
+      → has_room m.page_counts t.ledger s.node ≡ true → x ≡ granting m.page_counts t j s → Accepted m t c x
   frees : (j p : ℕ) → c ≡ release j p → ReleasePasses m.page_counts t j p → x ≡ freeing m.page_counts t j p → Accepted m t c x
   frees_all : fresh_tables_ok m.page_counts (length t.ledger) (length t.free) ≡ true → x ≡ freeing_all m.page_counts → Accepted m t c x
   drains : (y room : ℕ) (vs : List Move) → DrainPasses m.page_counts m.distances y t room vs → x ≡ draining y t vs → Accepted m t c x
@@ -368,7 +368,7 @@ pub record Granted (m : Machine) (t : Tables) (j k n p : ℕ) : Type 0 where
 
 module _ (m : Machine) (t : Tables) (j k : ℕ) where
   -- the try that serves a request: what it grants
-  pub serves : {s : Try} → Passes m t j k → chosen t.free (order_of m t j k) ≡ some s → room_enough m.page_counts t.ledger s.node ≡ true
+  pub serves : {s : Try} → Passes m t j k → chosen t.free (order_of m t j k) ≡ some s → has_room m.page_counts t.ledger s.node ≡ true
       → Granted m t j k s.node (pick_page m.page_counts t.ledger j s.node)
   unfolding chosen order_of
   serves {s} a e room =
@@ -493,7 +493,7 @@ pub record MeetsFullCount (counts : List ℕ) (t : Tables) (j p : ℕ) : Type 0 
 
 -- a release is refused 14 exactly then
 pub release_14 : (m : Machine) (t : Tables) (j p : ℕ) → ((step m t (release j p)).answer ≡ refused 14) ↔ MeetsFullCount m.page_counts t j p
-unfolding step decision applied release_decision count_fits_lem
+unfolding step decision applied release_decision count_fits
 release_14 m t j p = (λ e. there (release_decision m.page_counts t j p) refl e, λ h. back h)
   where
     last : (b : Bool) (x : Change) → unless b 14 (accept x) ≡ refuse 14 → b ≡ false

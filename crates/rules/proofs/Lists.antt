@@ -76,10 +76,11 @@ module _ {A : Type 0} where
       go false e h ih = let r = ih h in (Memᴰ.tail r.0, r.1)
 
   -- one of the list that passes the test is kept
-  pub member_keep : (p : A → Bool) {xs : List A} {x : A} → x ∈ xs → p x ≡ true → x ∈ keep p xs
+  pub member_keep : (p : A → Bool) {x : A} {xs : List A} → x ∈ xs → p x ≡ true → x ∈ keep p xs
   unfolding keep
+  member_keep p {xs = []} m t = elim m [ ]
   member_keep p {xs = y ∷ ys} (Memᴰ.head q) t = rw (ap p (sym q) ∙ t) (Memᴰ.head q)
-  member_keep p {xs = y ∷ ys} {x = x} (Memᴰ.tail m) t = go (p y) (member_keep p m t)
+  member_keep p {x = x} {xs = y ∷ ys} (Memᴰ.tail m) t = go (p y) (member_keep p m t)
     where
       go : (b : Bool) → x ∈ keep p ys → x ∈ cond b (y ∷ keep p ys) (keep p ys)
       go true h = Memᴰ.tail h
@@ -123,7 +124,7 @@ module _ {A : Type 0} where
   member_at (x ∷ xs) (suc i) d h = Memᴰ.tail (member_at xs i d (le_of_suc-le-suc h))
 
   -- and each one of the list is the entry of a place
-  pub at_member : (d : A) {xs : List A} {x : A} → x ∈ xs → (i : ℕ) × (i < length xs) × (get_or xs i d ≡ x)
+  pub at_member : (d : A) {x : A} {xs : List A} → x ∈ xs → (i : ℕ) × (i < length xs) × (get_or xs i d ≡ x)
   at_member d (Memᴰ.head q) = (0, zero-lt-suc _, sym q)
   at_member d (Memᴰ.tail m) = let r = at_member d m in (suc r.0, suc-le-suc r.1, r.2)
 
@@ -141,14 +142,16 @@ module _ {A : Type 0} where
       go false e h ih = let r = ih h in (r.0, Memᴰ.tail r.1, r.2)
 
   -- one of the list passes: some one does
-  pub true_any : (p : A → Bool) {xs : List A} {x : A} → x ∈ xs → p x ≡ true → any p xs ≡ true
+  pub true_any : (p : A → Bool) {x : A} {xs : List A} → x ∈ xs → p x ≡ true → any p xs ≡ true
   unfolding any
+  true_any p {xs = []} m t = elim m [ ]
   true_any p {xs = y ∷ ys} (Memᴰ.head q) t = rw (ap p (sym q) ∙ t)
   true_any p {xs = y ∷ ys} (Memᴰ.tail m) t = rw (true_any p m t) (or-true (p y))
 
   -- none passes: each one of the list fails
-  pub any_false : (p : A → Bool) {xs : List A} {x : A} → any p xs ≡ false → x ∈ xs → p x ≡ false
+  pub any_false : (p : A → Bool) {x : A} {xs : List A} → any p xs ≡ false → x ∈ xs → p x ≡ false
   unfolding any
+  any_false p {xs = []} h m = elim m [ ]
   any_false p {xs = y ∷ ys} h (Memᴰ.head q) = ap p q ∙ (either_false h).0
   any_false p {xs = y ∷ ys} h (Memᴰ.tail m) = any_false p (either_false {a = p y} h).1 m
 
@@ -165,8 +168,9 @@ module _ {A : Type 0} where
   any_append p (x ∷ xs) ys = rw (any_append p xs ys) (sym (or_assoc (p x) (any p xs) (any p ys)))
 
   -- every one passes: each one of the list does
-  pub all_true : (p : A → Bool) {xs : List A} {x : A} → all p xs ≡ true → x ∈ xs → p x ≡ true
+  pub all_true : (p : A → Bool) {x : A} {xs : List A} → all p xs ≡ true → x ∈ xs → p x ≡ true
   unfolding all
+  all_true p {xs = []} h m = elim m [ ]
   all_true p {xs = y ∷ ys} h (Memᴰ.head q) = ap p q ∙ (both_true h).0
   all_true p {xs = y ∷ ys} h (Memᴰ.tail m) = all_true p (both_true {a = p y} h).1 m
 
@@ -315,9 +319,10 @@ module _ {A B : Type 0} where
       (Memᴰ.append_cases (f x) h)
 
   -- one of f x, for an x of the list, is of the lists end to end
-  pub member_each : (f : A → List B) {xs : List A} {x : A} {y : B} → x ∈ xs → y ∈ f x → y ∈ each f xs
+  pub member_each : (f : A → List B) {x : A} {y : B} {xs : List A} → x ∈ xs → y ∈ f x → y ∈ each f xs
   unfolding each
-  member_each f {xs = z ∷ zs} {y = y} (Memᴰ.head q) m = Memᴰ.append_left (each f zs) (subst (λ (x : A). y ∈ f x) q m)
+  member_each f {xs = []} n m = elim n [ ]
+  member_each f {y = y} {xs = z ∷ zs} (Memᴰ.head q) m = Memᴰ.append_left (each f zs) (subst (λ (x : A). y ∈ f x) q m)
   member_each f {xs = z ∷ zs} (Memᴰ.tail n) m = Memᴰ.append_right (f z) (member_each f n m)
 
   -- lists that are the same for each one of xs are the same end to end

@@ -17,7 +17,7 @@ use Rattle.rules.specs.SearchOrder.{Try, has_room, chosen}
 use Rattle.rules.specs.Decisions.{Decision, refuse, accept, unless}
 use Rattle.rules.specs.Calls.{granted, released, done, refused, Tables, Change, after_stores, after_remaps, applied, mapping, map_of}
 use Rattle.rules.specs.Calls.{is_job, is_cpu, request_tables_ok, release_tables_ok, mapped_tables_ok, is_mapped, policy_known, install_fits}
-use Rattle.rules.specs.Calls.{holds, count_fits_lem, admitted, limit_of, order_of, serve, request_decision, release_decision, install_decision}
+use Rattle.rules.specs.Calls.{holds, count_fits, admitted, limit_of, order_of, serve, request_decision, release_decision, install_decision}
 use Rattle.rules.specs.Calls.{keep_decision, set_map_decision}
 use Rattle.rules.specs.Book.{Call, request, release, install, keep_nodes, set_map, decision, step}
 use Rattle.rules.proofs.AsBefore.{in_chain}
@@ -156,7 +156,7 @@ module _ (m : Machine) (t : Tables) (j : ℕ) where
       chain =
           third_is_15 (release_tables_ok m.page_counts t) (is_job t.records j) (is_mapped (node_count m) t j) _
           (never_15 (holds m.page_counts t.ledger j p) 10 _ (λ y. omega arith)
-          (never_15 (count_fits_lem m.page_counts t.free (node_of_page m.page_counts p)) 14 _ (λ y. omega arith) (accepted_never _)))
+          (never_15 (count_fits m.page_counts t.free (node_of_page m.page_counts p)) 14 _ (λ y. omega arith) (accepted_never _)))
 
   -- ".. and install": likewise
   pub install_15 : (p : Policy) → ((step m t (install j p)).answer ≡ refused 15)

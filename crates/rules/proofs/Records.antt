@@ -11,7 +11,7 @@ use lib.Arith.{digits_mod, lt_of_le-ne}
 use lib.ListN.{length, get_or, take, drop, set, replicate, length-append, length-take, length-drop, length-replicate, take-append-drop}
 use lib.Pow.{high, split, mod-pow-add}
 use lib.Seq.{sets, sets-eq, length-sets, get_or-set_other, set-get_or, get_or-take, get_or-drop, take_at, drop_at, length-take-le}
-use Rattle.rules.specs.Records.{words_per_job, places_per_job, Policy, Turn, Record, bytes_of, from_bytes_lem, decode, encode, job_count, record_at, put_record}
+use Rattle.rules.specs.Records.{words_per_job, places_per_job, Policy, Turn, Record, bytes_of, from_bytes, decode, encode, job_count, record_at, put_record}
 use Rattle.rules.specs.Records.{fresh, installed, rebound, with_turn}
 use Rattle.rules.proofs.Bytes.{AreBytes, bytes_length, bytes_small, from_bytes_lem, bytes_from, take_bytes, drop_bytes, append_bytes}
 
@@ -102,7 +102,7 @@ byte_of_word k lo d hi w h l e =
 
 -- sixteen bytes stored as two words are read back
 pub places_again : (bs : List ℕ) → length bs ≡ places_per_job → AreBytes bs
-    → bytes_of 8 (from_bytes_lem (take 8 bs)) ++ bytes_of 8 (from_bytes_lem (drop 8 bs)) ≡ bs
+    → bytes_of 8 (from_bytes (take 8 bs)) ++ bytes_of 8 (from_bytes (drop 8 bs)) ≡ bs
 places_again bs l h =
     let front : length (take 8 bs) ≡ 8 = simp length-take (omega arith) in
     let back : length (drop 8 bs) ≡ 8 = simp length-drop (omega arith) in

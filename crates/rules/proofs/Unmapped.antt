@@ -25,8 +25,8 @@ use Rattle.rules.specs.Maps.{application_node, system_mask, turned, named_places
 use Rattle.rules.specs.SearchOrder.{Try, plan, order, has_room, pick_page, counted, chosen}
 use Rattle.rules.specs.Decisions.{Decision, refuse, accept, unless, then}
 use Rattle.rules.specs.Calls.{granted, released, Tables, Change, storing, map_of, freeing, is_job, is_cpu, free_ok, jobs_ok, request_tables_ok}
-use Rattle.rules.specs.Calls.{fresh_tables_ok, release_tables_ok, record_tables_ok, mapped_tables_ok, is_mapped_lem, policy_known, mask_fits, policy_fits}
-use Rattle.rules.specs.Calls.{holds, count_fits_lem, admitted, limit_of, order_of, granting, serve, request_decision, release_decision}
+use Rattle.rules.specs.Calls.{fresh_tables_ok, release_tables_ok, record_tables_ok, mapped_tables_ok, is_mapped, policy_known, mask_fits, policy_fits}
+use Rattle.rules.specs.Calls.{holds, count_fits, admitted, limit_of, order_of, granting, serve, request_decision, release_decision}
 use Rattle.rules.specs.Calls.{install_fits, install_decision, applied, after_remaps}
 use Rattle.rules.specs.Book.{Call, request, release, install, rebind, clear, fresh_table, keep_nodes, set_map, drain, decision, step, final}
 use Rattle.rules.specs.Unmapped.{Identity, sets_map, Past, answering, order_unmapped, serve_unmapped, request_unmapped, release_unmapped, install_unmapped}
@@ -302,8 +302,8 @@ module _ (m : Machine) (t : Tables) (identity : Identity m t) (ok : nodes_ok (no
         ∙ job_bytes (bytes_for (from 0 (node_count m))) identity_long (job_count (length t.records)) j (ltb-true j _ job)
 
     -- each job's map is good
-    is_mapped_lem : is_mapped_lem (node_count m) t j ≡ true
-    unfolding is_mapped_lem
+    is_mapped_lem : is_mapped (node_count m) t j ≡ true
+    unfolding is_mapped
     is_mapped_lem = ap (good_map (node_count m)) bytes_same ∙ bytes_good (node_count m) (from 0 (node_count m)) in_range_lem.1 good_identity
 
     -- and has the nodes 0 to N-1
@@ -350,7 +350,7 @@ module _ (m : Machine) (t : Tables) (j : ℕ) where
   pub request_unmapped_lem : (k : ℕ) → Identity m t → request_decision m t j k ≡ request_unmapped m t j k
   unfolding request_decision admitted request_unmapped request_tables_ok
   request_unmapped_lem k identity =
-      in_chain (request_tables_ok m t) (is_job t.records j) (is_mapped_lem (node_count m) t j) (is_cpu m.cpu_nodes k) is_formed (record_at t.records j) search
+      in_chain (request_tables_ok m t) (is_job t.records j) (is_mapped (node_count m) t j) (is_cpu m.cpu_nodes k) is_formed (record_at t.records j) search
       ∙ unless_both 1 _ _ tables_same
       (λ ok. unless_same (is_job t.records j) 2 _ _
       (λ job. unless_passed 15 _ (is_mapped_lem m t identity (tables_nodes ok) j job)
@@ -390,7 +390,7 @@ module _ (m : Machine) (t : Tables) (j : ℕ) where
       (λ ok. unless_same (is_job t.records j) 2 _ _
       (λ job. unless_passed 15 _ (is_mapped_lem m t identity (tables_nodes ok) j job)
       ∙ unless_same (holds counts t.ledger j p) 10 _ _
-      (λ held. unless_same (count_fits_lem counts t.free (node_of_page counts p)) 14 _ _
+      (λ held. unless_same (count_fits counts t.free (node_of_page counts p)) 14 _ _
       (λ fits. ap (λ (a : ℕ). accept (answering (released a p) (freeing counts t j p)))
       (number_is m t identity (tables_nodes ok) j job (node_of_page counts p) (held_node held))))))
     where

@@ -20,7 +20,7 @@ use Rattle.rules.specs.Records.{Cursor, no_cursor, aNode, aPlace, row_of, mode_o
 use Rattle.rules.specs.Records.{unused_zero, allowed_fits, cursor_limit, cursor_fits, no_masks, effective_fits, masks_fit, data_fits, well_formed}
 use Rattle.rules.specs.Records.{effective_at_install, installed, effective_at_rebind, rebound, open_records}
 use Rattle.rules.specs.SearchOrder.{mode_in_force}
-use Rattle.rules.specs.Calls.{flag_fits, policy_known, mask_fits_lem, policy_fits}
+use Rattle.rules.specs.Calls.{flag_fits, policy_known, mask_fits, policy_fits}
 use Rattle.rules.proofs.Bytes.{AreBytes}
 use Rattle.rules.proofs.Lists.{both_true, both_hold, either_true}
 use Rattle.rules.proofs.Masks.{image_out, bit_above, bit_lt, bit_and_lem, bits_within, folded_within, folded_pos}
@@ -364,7 +364,7 @@ few_places nothing n a p e =
     le_trans (le_of_eq (eqb-true c 0 (both_true {a = is_empty p.user} {b = eqb c 0} e).1)) zero-le
 few_places aMask n a p e =
     let c = length p.places in
-    let m = (eqb p.mode 1 || not (is_empty p.user)) && mask_fits_lem n a p in
+    let m = (eqb p.mode 1 || not (is_empty p.user)) && mask_fits n a p in
     le_trans (le_of_eq (eqb-true c 0 (both_true {a = m} {b = eqb c 0} e).1)) zero-le
 few_places aList n a p e =
     let c = length p.places in
@@ -373,9 +373,9 @@ few_places aList n a p e =
 few_places unknown n a p e = absurd (false≢true e)
 
 -- a mask that fits, without the relative flag, lies below N and meets the allowed set
-mask_fits_lem : (n allowed : ℕ) (p : Policy) → (flag_of p.flag ≡ relative → ⊥) → 0 < p.user → mask_fits_lem n allowed p ≡ true
+mask_fits_lem : (n allowed : ℕ) (p : Policy) → (flag_of p.flag ≡ relative → ⊥) → 0 < p.user → mask_fits n allowed p ≡ true
     → (below n p.user ≡ true) × (not (is_empty (both p.user allowed)) ≡ true)
-unfolding mask_fits_lem
+unfolding mask_fits
 mask_fits_lem n allowed p ne q e =
     both_true (rw (ne_eqb p.flag 2 (λ z. ne (rw z)), ne_eqb p.user 0 (λ z. omega arith)) at e)
 
@@ -400,7 +400,7 @@ module _ (n : ℕ) (r : Record) (p : Policy) (l : n ≤ most_nodes) (h : Formed 
   installed_none f u = none_fit new f u (rw (f, u) (and_zero_l r.allowed))
 
   -- its effective mask fits its flag
-  installed_effective : (f : Flag) → flag_of p.flag ≡ f → 0 < p.user → flag_known f ≡ true → mask_fits_lem n r.allowed p ≡ true
+  installed_effective : (f : Flag) → flag_of p.flag ≡ f → 0 < p.user → flag_known f ≡ true → mask_fits n r.allowed p ≡ true
       → effective_fits n new f ≡ true
   unfolding new installed effective_at_install effective_fits flag_known
   installed_effective plain c q k e =
@@ -414,7 +414,7 @@ module _ (n : ℕ) (r : Record) (p : Policy) (l : n ≤ most_nodes) (h : Formed 
 
   -- its masks fit
   installed_masks : flag_known (flag_of p.flag) ≡ true → flag_fits aMask p ≡ true → (eqb p.mode 1 || not (is_empty p.user)) ≡ true
-      → mask_fits_lem n r.allowed p ≡ true → masks_fit n new ≡ true
+      → mask_fits n r.allowed p ≡ true → masks_fit n new ≡ true
   unfolding new installed masks_fit
   installed_masks k f m e = go (is_empty p.user) refl
     where
@@ -433,8 +433,8 @@ module _ (n : ℕ) (r : Record) (p : Policy) (l : n ≤ most_nodes) (h : Formed 
       both_hold (installed_none (eqb-true p.flag 0 f) (eqb-true p.user 0 q.0)) q.1
   installed_data aMask k f e =
       let m = eqb p.mode 1 || not (is_empty p.user) in
-      let q = both_true {a = m && mask_fits_lem n r.allowed p} {b = eqb (length p.places) 0} e in
-      let t = both_true {a = m} {b = mask_fits_lem n r.allowed p} q.0 in
+      let q = both_true {a = m && mask_fits n r.allowed p} {b = eqb (length p.places) 0} e in
+      let t = both_true {a = m} {b = mask_fits n r.allowed p} q.0 in
       both_hold (installed_masks k f t.0 t.1) q.1
   installed_data aList k f e =
       let q = both_true {a = is_empty p.user} {b = between 1 places_per_job (length p.places)} e in

@@ -220,8 +220,8 @@ unfoldable pub holds : List ℕ → List ℕ → ℕ → ℕ → Bool
 holds counts ledger j p = ltb p (sum counts) && eqb (get_or ledger p 0) (j + 1)
 
 -- M-100: "a release that would take a count above the node's pages answers 14"
-unfoldable pub count_fits_lem : List ℕ → List ℕ → ℕ → Bool
-count_fits_lem counts free n = leb (get_or free n 0 + 1) (get_or counts n 0)
+unfoldable pub count_fits : List ℕ → List ℕ → ℕ → Bool
+count_fits counts free n = leb (get_or free n 0 + 1) (get_or counts n 0)
 
 -- ---- the calls, decided
 
@@ -272,7 +272,7 @@ release_decision counts t j p =
     (unless (is_job t.records j) 2
     (unless (is_mapped (length counts) t j) 15
     (unless (holds counts t.ledger j p) 10
-    (unless (count_fits_lem counts t.free (node_of_page counts p)) 14
+    (unless (count_fits counts t.free (node_of_page counts p)) 14
     (accept (freeing counts t j p))))))
 
 -- M-100: the fresh table "can be refused only 1"
@@ -359,7 +359,7 @@ on_set_map n t j nodes = applied t (set_map_decision n t j nodes)
 -- for a proof that computes: `unfolding open_calls` opens every definition of this file
 unfoldable pub open_calls : Unit {0}
 unfolding numbers after_writes after_stores after_remaps applied map_of jobs_ok request_tables_ok fresh_tables_ok release_tables_ok record_tables_ok
-    mapped_tables_ok is_mapped flag_fits policy_known mask_fits policy_fits rebind_fits holds count_fits_lem admitted limit_of order_of serve request_decision
+    mapped_tables_ok is_mapped flag_fits policy_known mask_fits policy_fits rebind_fits holds count_fits admitted limit_of order_of serve request_decision
     release_decision fresh_decision install_fits install_decision rebind_decision clear_decision keep_decision set_map_decision on_request on_release
     on_fresh on_install on_rebind on_clear on_keep on_set_map
 open_calls = tt

@@ -2,7 +2,7 @@
 use Rattle.std.specs.Prelude.{ℕ, zero, suc, ◌+◌, ◌*◌, Bool, false, ◌&&◌, ◌||◌, List, [], ◌∷◌, ◌++◌, map, length, get_or, take, drop, replicate, leb, ltb, eqb}
 use Rattle.rules.specs.Basics.{from, sum, between, all_at}
 use Rattle.rules.specs.Machine.{Machine, node_count, machine_ok}
-use Rattle.rules.specs.Records.{bytes_of, from_bytes_lem, words_per_job, places_per_job, most_jobs, policy}
+use Rattle.rules.specs.Records.{bytes_of, from_bytes, words_per_job, places_per_job, most_jobs, policy}
 use Rattle.rules.specs.Maps.{identity_maps}
 use Rattle.rules.specs.Decisions.{Decision, refuse, accept, unless, then, decided, Written, written}
 use Rattle.rules.specs.Calls.{Tables, tables_of, refused, numbers}
@@ -16,7 +16,7 @@ unfoldable pub part : ℕ → ℕ → List ℕ → List ℕ
 part k n bs = take n (drop k bs)
 
 unfoldable pub number : ℕ → ℕ → List ℕ → ℕ
-number k n bs = from_bytes_lem (part k n bs)
+number k n bs = from_bytes (part k n bs)
 
 -- "mark 4E 50"
 unfoldable pub marked : List ℕ → Bool

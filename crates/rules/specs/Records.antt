@@ -98,9 +98,9 @@ unfoldable pub bytes_of : ℕ → ℕ → List ℕ
 bytes_of zero x = []
 bytes_of (suc k) x = x % 256 ∷ bytes_of k (x / 256)
 
-unfoldable pub from_bytes_lem : List ℕ → ℕ
-from_bytes_lem [] = 0
-from_bytes_lem (b ∷ bs) = from_bytes_lem bs * 256 + b
+unfoldable pub from_bytes : List ℕ → ℕ
+from_bytes [] = 0
+from_bytes (b ∷ bs) = from_bytes bs * 256 + b
 
 -- "Word 0: bits 0-7 mode, 8-15 flag, 16-23 list length, 24-31 cursor, the rest zero. Word 1: user mask. Word 2: allowed mask.
 -- Word 3: effective mask. Words 4 and 5: sixteen list places, one byte each, lowest byte first"
@@ -123,8 +123,8 @@ encode r =
     ∷ r.user
     ∷ r.allowed
     ∷ r.effective
-    ∷ from_bytes_lem (take 8 r.bytes)
-    ∷ from_bytes_lem (drop 8 r.bytes)
+    ∷ from_bytes (take 8 r.bytes)
+    ∷ from_bytes (drop 8 r.bytes)
     ∷ []
 
 -- "The job table is lent as 64-bit words, six to a job, 1 to 64 jobs": by the table's length
@@ -273,6 +273,6 @@ with_turn r turn = record {
 
 -- for a proof that computes: `unfolding open_records` opens every definition of this file
 unfoldable pub open_records : Unit {0}
-unfolding row_of bytes_of from_bytes_lem decode encode job_table_ok record_at put_record fresh places_of closes unused_zero is_known flag_known
+unfolding row_of bytes_of from_bytes decode encode job_table_ok record_at put_record fresh places_of closes unused_zero is_known flag_known
     allowed_fits cursor_limit cursor_fits no_masks effective_fits masks_fit data_fits well_formed effective_at_install installed effective_at_rebind rebound with_turn
 open_records = tt

@@ -11,7 +11,7 @@ use Rattle.rules.specs.Maps.{named_places, identity_maps}
 use Rattle.rules.specs.SearchOrder.{Try, plan, order, has_room, chosen, pick_page}
 use Rattle.rules.specs.Decisions.{Decision, refuse, accept, unless}
 use Rattle.rules.specs.Calls.{Answer, granted, released, Tables, Change, storing, granting, freeing, is_job, is_cpu, free_ok, fresh_tables_ok}
-use Rattle.rules.specs.Calls.{record_tables_ok, policy_known, policy_fits, holds, count_fits_lem}
+use Rattle.rules.specs.Calls.{record_tables_ok, policy_known, policy_fits, holds, count_fits}
 use Rattle.rules.specs.Book.{Call, request, release, install, rebind, clear, fresh_table, keep_nodes, set_map, drain}
 
 -- ---- map 0 to N-1
@@ -73,7 +73,7 @@ release_unmapped counts t j p =
     unless (fresh_tables_ok counts (length t.ledger) (length t.free) && job_table_ok (length t.records)) 1
     (unless (is_job t.records j) 2
     (unless (holds counts t.ledger j p) 10
-    (unless (count_fits_lem counts t.free (node_of_page counts p)) 14
+    (unless (count_fits counts t.free (node_of_page counts p)) 14
     (accept (answering (released (node_of_page counts p) p) (freeing counts t j p))))))
 
 -- "install 1, 2, 4, 5, 7, 6"; "1 looks only at .. else N and the job table"

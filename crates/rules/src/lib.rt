@@ -1,6 +1,8 @@
 // The shared types of the placer. The rules themselves, document 01 as definitions, are in specs/.
 
-ghost use Rattle.std.specs.Prelude.{◌≡◌, [], ◌∷◌, ◌++◌, ℕ, min, ◌≤◌, take, replicate};
+#![tactic(auto)]
+
+ghost use Rattle.std.specs.Prelude.{◌≡◌, [], ◌∷◌, ◌++◌, ℕ, min, ◌≤◌, length, take, drop, replicate};
 ghost use Rattle.rules.specs.Calls.{numbers};
 ghost use Rattle.rules.specs.Records.{places_per_job, closes};
 ghost use Rattle.rules.specs.Answers.{number_of, answer_of, decision_of, numbers_in, in_numbers, number_in, ordered_of, order_numbers, order_numbers_in};
@@ -69,6 +71,17 @@ pub fn copy_first(list: &[u8], out: &mut [u8])
         out[i] = list[i];
         i += 1;
     }
+}
+
+// Copies bytes over the first of others, which have room for them, and tells how many they are.
+pub fn copy(src: &[u8], out: &mut [u8]) -> usize
+    requires { length src.now ≤ length out.old }
+    ensures count { result ≡ length src.now }
+    ensures bytes { out.new ≡ take (length src.now) src.now ++ drop (length src.now) out.old }
+{
+    let n = src.len();
+    out[..n].copy_from_slice(src);
+    n
 }
 
 // Why a call was refused: document 01, "Refusal numbers", from 1 on; 14 is of request M-100, 15 of M-103, 16 of M-104,

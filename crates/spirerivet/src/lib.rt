@@ -1,5 +1,7 @@
 // The library for hosts in C and Rust: each public call, with its answer in numbers.
 
+#![tactic(auto)]
+
 ghost use Rattle.std.specs.Prelude.{◌≡◌, ℕ, replicate};
 ghost use Rattle.rules.specs.Answers.{numbers_in, number_in, in_numbers, order_numbers_in, part_of, told, told_of};
 ghost use Rattle.rules.specs.Calls.{Tables, tables_of, with_records, with_pages, with_jobs, on_request, on_release, on_fresh, on_install, on_rebind, on_clear, on_keep, on_set_map};

@@ -7,23 +7,23 @@ use borrow.Author.Rules.{rules}
 use lib.ListN.{length, get_or, take, drop, length-take, drop_of_length-le}
 use mir.Syntax.{w8}
 use mir.Val.{Fits}
-use Rattle.rules.specs.Records.{from_bytes_lem}
+use Rattle.rules.specs.Records.{from_bytes}
 use Rattle.records.proofs.Shifts.{pack_step}
 use Rattle.records.proofs.words.pack.Statement.{statement}
 use Rattle.records.proofs.words.pack.Tie as tie
 
 abbrev invariant-loop : tie.invariant-loop
-invariant-loop places start word₀ i₀ word i = (i ≤ 8) × (length places ≡ 16) × (word ≡ from_bytes_lem (drop i (take 8 (drop start places))))
+invariant-loop places start word₀ i₀ word i = (i ≤ 8) × (length places ≡ 16) × (word ≡ from_bytes (drop i (take 8 (drop start places))))
 
 abbrev decreases-loop : tie.decreases-loop
 decreases-loop places start word₀ i₀ word i = i
 
 loop-holds : tie.Need-loop-init invariant-loop decreases-loop
-unfolding from_bytes_lem
+unfolding from_bytes
 loop-holds c =
     let xs = take 8 (drop c.before.args.from.0 c.before.args.t1) in
     let l : length xs ≤ 8 = simp length-take (omega arith) in
-    (search rules, search rules, ap from_bytes_lem (sym (drop_of_length-le xs l)))
+    (search rules, search rules, ap from_bytes (sym (drop_of_length-le xs l)))
 
 loop-again : tie.Need-loop-preserved invariant-loop decreases-loop
 loop-again c =
@@ -39,7 +39,7 @@ returns : tie.Need-returns invariant-loop decreases-loop
 returns c =
     let a = c.before.before.before.args in
     let e : c.before.loop.i ≡ 0 = omega arith in
-    c.before.loop.invariant.2 ∙ ap (λ (k : ℕ). from_bytes_lem (drop k (take 8 (drop a.from.0 a.t1)))) e
+    c.before.loop.invariant.2 ∙ ap (λ (k : ℕ). from_bytes (drop k (take 8 (drop a.from.0 a.t1)))) e
 
 pub pack-spec : {M : Type 1} → statement M
 pack-spec =
