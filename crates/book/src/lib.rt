@@ -20,7 +20,7 @@ mod lists;
 
 // A call. The places of an install stand beside it, sixteen of them with zeros behind the list, and so does the list of a call that sets a
 // map; `len` is how many the list has.
-#[derive(Drop)]
+#[derive(Clone, Copy)]
 pub enum Call {
     Request {
         job: usize,

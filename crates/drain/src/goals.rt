@@ -17,7 +17,7 @@ use records::table;
 use rules::{MOST_NODES, SysNode};
 
 // The nodes that the job of a byte may get; or the byte names no job, or the job's record or map is malformed.
-#[derive(Drop)]
+#[derive(Clone, Copy)]
 pub enum Holder {
     Of(Mask),
     Nobody,

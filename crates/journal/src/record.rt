@@ -11,7 +11,7 @@ use book::Call;
 use rules::PLACES_PER_JOB;
 
 // What is read of a record. The places of an install are in `places_in`.
-#[derive(Drop)]
+#[derive(Clone, Copy)]
 pub enum Reading {
     Entry { kind: u8, size: usize, call: Call },
     Damaged,

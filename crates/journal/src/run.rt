@@ -20,7 +20,7 @@ use placement::hinting::HINTS;
 use rules::{MOST_NODES, Refusal};
 
 // What a part of a run comes to: the bytes of the records that it did and those of their answers, and whether the run goes on.
-#[derive(Drop)]
+#[derive(Clone, Copy)]
 pub struct Part {
     pub read: usize,
     pub written: usize,

@@ -11,7 +11,7 @@ use nodemask::Mask;
 use rules::{MAP_BYTES, NO_NODE, SysNode};
 
 // A job's map, judged: the set of its nodes and how many they are; or a bad one.
-#[derive(Drop)]
+#[derive(Clone, Copy)]
 pub enum Judged {
     Good(Mask, u8),
     Bad,
@@ -19,7 +19,7 @@ pub enum Judged {
 
 // The bytes of a new map, where the list is good; else they stand for nothing. The array stands beside the verdict: the prover covers no
 // enum that holds one.
-#[derive(Drop)]
+#[derive(Clone, Copy)]
 pub struct NewMap {
     pub good: bool,
     pub bytes: [u8; MAP_BYTES],

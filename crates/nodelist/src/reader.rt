@@ -10,11 +10,11 @@ use nodemask;
 use nodemask::{Mask, Ranks};
 
 // A set of numbers below 64: bit n stands for n. The form of a text says whether they are nodes or ranks.
-#[derive(Drop)]
+#[derive(Clone, Copy)]
 pub struct Numbers(pub u64);
 
 // The item that is being read.
-#[derive(Drop)]
+#[derive(Clone, Copy)]
 pub enum Item {
     Empty,
     Number(usize),
@@ -24,14 +24,14 @@ pub enum Item {
 }
 
 // Where a reader stands: what the items passed have named, and the item that is being read.
-#[derive(Drop)]
+#[derive(Clone, Copy)]
 pub struct Progress {
     pub named: Numbers,
     pub item: Item,
 }
 
 // What the items of a text name.
-#[derive(Drop)]
+#[derive(Clone, Copy)]
 pub enum Items {
     Named(Numbers),
     Bad,

@@ -13,7 +13,7 @@ use nodemask::Mask;
 use rules::{Decision, MOST_NODES, Refusal, SysNode};
 
 // A run of nodes from low to high, if there is one.
-#[derive(Drop)]
+#[derive(Clone, Copy)]
 pub enum NextRun {
     Run(SysNode, SysNode),
     Nothing,

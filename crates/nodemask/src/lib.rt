@@ -11,19 +11,19 @@ ghost use Rattle.nodemask.specs.Ranks.{wrapped, ranks_in, ranked_in};
 
 use rules::{MOST_NODES, SysNode};
 
-#[derive(Drop)]
+#[derive(Clone, Copy)]
 pub struct Mask(pub u64);
 
 // The rank of a node in a set: how many nodes of the set are below it.
-#[derive(Drop)]
+#[derive(Clone, Copy)]
 pub struct Rank(pub u32);
 
 // A set of ranks: bit r stands for rank r.
-#[derive(Drop)]
+#[derive(Clone, Copy)]
 pub struct Ranks(pub u64);
 
 // The node that a search came to, if there is one.
-#[derive(Drop)]
+#[derive(Clone, Copy)]
 pub enum Found {
     At(SysNode),
     Nothing,

@@ -13,7 +13,7 @@ use maps::turning;
 use rules::{CLOSING_PLACE, Decision, NO_NODE, PLACES_PER_JOB, Refusal, SysNode};
 
 // What a name stands for.
-#[derive(Drop)]
+#[derive(Clone, Copy)]
 pub enum Found {
     Place(u8),
     Unknown,

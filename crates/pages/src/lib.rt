@@ -11,7 +11,7 @@ ghost use Rattle.pages.specs.Colours.{is_free, free_from, free_of, pick_of, Held
 use rules::{Page, lower};
 
 // How far a page stands from the first page of its part.
-#[derive(Drop)]
+#[derive(Clone, Copy)]
 pub struct Offset(pub usize);
 
 impl Offset {
@@ -25,7 +25,7 @@ impl Offset {
 }
 
 // Where the lowest free page of a part stands.
-#[derive(Drop)]
+#[derive(Clone, Copy)]
 pub enum Found {
     At(Offset),
     Full,

@@ -19,7 +19,7 @@ use records::table;
 use rules::{MOST_NODES, Page, Refusal, SysNode};
 
 // The page that is marked, if the node has a free one.
-#[derive(Drop)]
+#[derive(Clone, Copy)]
 pub enum Marked {
     At(Page),
     Full,
@@ -27,7 +27,7 @@ pub enum Marked {
 
 // The part of a node's pages that is searched for a job: from a page before which all are held, to the node's end; how far from its start all
 // pages of the job's colour are held; and that colour, counted from its start.
-#[derive(Drop)]
+#[derive(Clone, Copy)]
 struct Part {
     low: Page,
     end: Page,

@@ -61,7 +61,7 @@ pub fn lent_ok(
 // ---- request
 
 // What a request's tests before the search come to: the record that it goes by and the nodes that the job may get, or a refusal.
-#[derive(Drop)]
+#[derive(Clone, Copy)]
 pub enum Admission {
     Passed(Record, Mask),
     Refused(Refusal),

@@ -9,7 +9,7 @@ use maps::turning;
 use rules::{Answer, Page, Refusal, SysNode};
 
 // A page that is granted or released, with its node; or why it is not.
-#[derive(Drop)]
+#[derive(Clone, Copy)]
 pub enum Placed {
     Granted(SysNode, Page),
     Released(SysNode, Page),

@@ -13,7 +13,7 @@ use rules::{PLACES_PER_JOB, SysNode};
 
 // A walk over the places of a list, from the cursor on, once round. `early`: place 0 comes before it.
 // `moves`: a place that grants leaves itself for the last one; else the cursor stays.
-#[derive(Drop)]
+#[derive(Clone, Copy)]
 pub struct Walk {
     pub early: bool,
     pub moves: bool,
@@ -23,7 +23,7 @@ pub struct Walk {
 
 // By near(x) over a set of nodes, every grant leaving one cursor; by places; or by places and then by near(x) over the nodes that the job
 // may get, the cursor staying.
-#[derive(Drop)]
+#[derive(Clone, Copy)]
 pub enum Plan {
     Near(Mask, SysNode, u8),
     Places(Walk),

@@ -17,7 +17,7 @@ use records::job::Job;
 use rules::{PLACES_PER_JOB, Place, SysNode};
 
 // The node that is chosen, and the cursor field that a grant there leaves.
-#[derive(Drop)]
+#[derive(Clone, Copy)]
 pub enum Chosen {
     At(SysNode, u8),
     Nothing,

@@ -14,7 +14,7 @@ use journal::record::SHORTEST;
 use journal::run;
 
 // What a part leaves: so many bytes of a record that has not arrived in full, or the end of the run.
-#[derive(Drop)]
+#[derive(Clone, Copy)]
 pub enum Rest {
     Kept(usize),
     Ended,

@@ -7,7 +7,7 @@ ghost use Rattle.placer.specs.Parts.{AtMost};
 use libc::{EINTR, STDIN_FILENO, STDOUT_FILENO};
 
 // What a read brought: so many bytes, none where a signal came first; the end of input; or nothing, since it failed.
-#[derive(Drop)]
+#[derive(Clone, Copy)]
 pub enum Got {
     Bytes(usize),
     End,

@@ -17,7 +17,7 @@ use rules::{MOST_NODES, PLACES_PER_JOB, SysNode};
 const UNREACHABLE: u8 = 255;
 
 // The set that the search goes over, the nodes that it reaches or names, and the reason of those that it does not.
-#[derive(Drop)]
+#[derive(Clone, Copy)]
 pub struct Reach {
     pub set: Mask,
     pub found: Mask,

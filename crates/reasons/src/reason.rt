@@ -13,7 +13,7 @@ use placement::search::Chosen;
 use rules::SysNode;
 
 // "1 not allowed; 2 outside a bind set in force; 3 unreachable, ..; 4 named by no place, ..; 5 full; 6 chosen; 7 had room but came later"
-#[derive(Drop)]
+#[derive(Clone, Copy)]
 pub enum Reason {
     NotAllowed,
     OutsideBind,

@@ -10,7 +10,7 @@ use nodemask::Mask;
 use rules::{PLACES_PER_JOB, Place};
 
 // "Flags: 0 none, 1 static, 2 relative"
-#[derive(Drop)]
+#[derive(Clone, Copy)]
 pub enum Flag {
     Plain,
     Static,
@@ -18,7 +18,7 @@ pub enum Flag {
 }
 
 // Preferred, bind and interleave carry flag, user mask and effective mask; list, ring and early the list length; a cursor field is last.
-#[derive(Drop)]
+#[derive(Clone, Copy)]
 pub enum Mode {
     Default,
     Preferred(Flag, Mask, Mask),
@@ -30,7 +30,7 @@ pub enum Mode {
 }
 
 // The places past the list length are zero.
-#[derive(Drop)]
+#[derive(Clone, Copy)]
 pub struct Job {
     pub mode: Mode,
     pub allowed: Mask,

@@ -16,7 +16,7 @@ use rules::PLACES_PER_JOB;
 
 // The policy that a job asks for, in its own numbers: a mask of application nodes, or of ranks where it is relative, and `len` places, of
 // which `places` has the first, and zeros past their end.
-#[derive(Drop)]
+#[derive(Clone, Copy)]
 pub struct AppPolicy {
     pub mode: u64,
     pub flag: u64,
@@ -26,7 +26,7 @@ pub struct AppPolicy {
 }
 
 // The same in system nodes.
-#[derive(Drop)]
+#[derive(Clone, Copy)]
 pub struct Policy {
     pub mode: u64,
     pub flag: u64,

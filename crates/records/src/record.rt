@@ -12,7 +12,7 @@ use nodemask::Mask;
 use rules::{PLACES_PER_JOB, Place};
 
 // What a mode carries.
-#[derive(Drop)]
+#[derive(Clone, Copy)]
 pub enum Carries {
     Nothing,
     AMask,
@@ -21,7 +21,7 @@ pub enum Carries {
 }
 
 // What a mode's cursor is.
-#[derive(Drop)]
+#[derive(Clone, Copy)]
 pub enum Cursor {
     NoCursor,
     ANode,
@@ -29,7 +29,7 @@ pub enum Cursor {
 }
 
 // One row of the table "Mode | Carries": what the mode carries, and what its cursor is.
-#[derive(Drop)]
+#[derive(Clone, Copy)]
 pub struct Row(pub Carries, pub Cursor);
 
 impl Row {
@@ -51,7 +51,7 @@ impl Row {
 }
 
 // The fields of a job's words; `rest` is what word 0 holds above the cursor, `low` and `high` are words 4 and 5, sixteen places.
-#[derive(Drop)]
+#[derive(Clone, Copy)]
 pub struct Record {
     pub mode: u8,
     pub flag: u8,

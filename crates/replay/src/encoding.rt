@@ -18,7 +18,7 @@ use rules::{Answer, MAP_BYTES, PLACES_PER_JOB};
 pub const CALL_WORDS: usize = 16;
 
 // A call that is read, and the places of its list.
-#[derive(Drop)]
+#[derive(Clone, Copy)]
 pub struct Entry {
     pub call: Call,
     pub places: [u8; PLACES_PER_JOB],

@@ -9,16 +9,16 @@ ghost use Rattle.rules.specs.Answers.{number_of, answer_of, decision_of, numbers
 
 // A node number, a page number and a place in a list are three kinds of number; and a node's number on the machine, by which the tables
 // go, is another than its number in a job's map, by which the job goes.
-#[derive(Drop)]
+#[derive(Clone, Copy)]
 pub struct SysNode(pub u8);
 
-#[derive(Drop)]
+#[derive(Clone, Copy)]
 pub struct AppNode(pub u8);
 
-#[derive(Drop)]
+#[derive(Clone, Copy)]
 pub struct Page(pub u32);
 
-#[derive(Drop)]
+#[derive(Clone, Copy)]
 pub struct Place(pub u8);
 
 // "N nodes, 1 to 64", "1 to 64 jobs", "six [words] to a job", "sixteen list places".
@@ -86,7 +86,7 @@ pub fn copy(src: &[u8], out: &mut [u8]) -> usize
 
 // Why a call was refused: document 01, "Refusal numbers", from 1 on; 14 is of request M-100, 15 of M-103, 16 of M-104,
 // 17 of M-107.
-#[derive(Drop)]
+#[derive(Clone, Copy)]
 pub enum Refusal {
     BadTables,
     NoSuchJob,
@@ -108,7 +108,7 @@ pub enum Refusal {
 }
 
 // What a call answers. A node is named by its number in the job's map, FF where it has none. A drain says how many pages it moved.
-#[derive(Drop)]
+#[derive(Clone, Copy)]
 pub enum Answer {
     Granted(AppNode, Page),
     Released(AppNode, Page),
@@ -118,14 +118,14 @@ pub enum Answer {
 }
 
 // A number, or why there is none.
-#[derive(Drop)]
+#[derive(Clone, Copy)]
 pub enum Decision {
     Accept(u64),
     Refuse(Refusal),
 }
 
 // How many nodes near(x) lists, and in how many rounds; or why it does not.
-#[derive(Drop)]
+#[derive(Clone, Copy)]
 pub enum Ordered {
     Listed(u8, u32),
     Refused(Refusal),
@@ -133,7 +133,7 @@ pub enum Ordered {
 
 // An answer in numbers: refusal 0 is none.
 #[repr(C)]
-#[derive(Drop)]
+#[derive(Clone, Copy)]
 pub struct Numbers {
     pub refusal: u8,
     pub node: u8,
@@ -142,7 +142,7 @@ pub struct Numbers {
 
 // A decision in numbers: refusal 0 is none, and the value is 0 on a refusal.
 #[repr(C)]
-#[derive(Drop)]
+#[derive(Clone, Copy)]
 pub struct Number {
     pub refusal: u8,
     pub value: u64,
@@ -150,7 +150,7 @@ pub struct Number {
 
 // What near(x) answers, in numbers: refusal 0 is none, and the others are 0 on a refusal.
 #[repr(C)]
-#[derive(Drop)]
+#[derive(Clone, Copy)]
 pub struct OrderNumbers {
     pub refusal: u8,
     pub nodes: u8,
@@ -159,7 +159,7 @@ pub struct OrderNumbers {
 
 // A part of the caller's bytes: 0 and 0 is an empty one.
 #[repr(C)]
-#[derive(Drop)]
+#[derive(Clone, Copy)]
 pub struct Part {
     pub start: usize,
     pub len: usize,
