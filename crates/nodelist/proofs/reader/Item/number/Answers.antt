@@ -1,0 +1,14 @@
+-- `Item::number` meets its contract, by its test.
+-- Assumes nothing.
+use borrow.Author.Tests.{lt-ltb, le-ltb}
+use Rattle.nodelist.specs.Reader.{number_below}
+use Rattle.nodelist.proofs.reader.Item.number.Goals as goal
+
+pub returns-then-value-limit : goal.returns-then-value-limit
+unfolding number_below
+returns-then-value-limit c = rw (lt-ltb _ _ c.if-value-limit.true)
+
+pub returns : goal.returns
+unfolding number_below
+returns c = rw (le-ltb _ _ c.if-value-limit.false)
+
