@@ -202,7 +202,8 @@ closes_span limit m p low high e l s h f =
     well (with_span m low high) e refl (or_lt most_nodes m.0 (span low high) h (lt_of_lt_of_le (span_lt low high) (pow_mono {j = most_nodes} (omega arith))))
     (λ k. has_or m.0 (span low high) k ∙ ap (λ (b : Bool). has m.0 k || b) (span_has low high k l ∙ sym (f k)))
 
-closes : {limit : ℕ} {item : Item} {p : List ℕ} (m : Numbers) → limit ≤ most_nodes → m.0 < 2 ^ most_nodes → Reads limit item p → Closes limit m p (closed m item)
+closes : {limit : ℕ} {item : Item} {p : List ℕ} (m : Numbers) → limit ≤ most_nodes → m.0 < 2 ^ most_nodes → Reads limit item p → Closes limit m p
+    (closed m item)
 unfolding closed split is_item item_has is_number is_nil
 closes m l h nothing = ill refl refl
 closes {limit} m l h (number {a = a} n) =

@@ -121,7 +121,8 @@ pub read_ranks : (n allowed : ℕ) (text : List ℕ) → n ≤ most_nodes → al
 unfolding items_read form_read form_ok form_mask ranked_in
 read_ranks n allowed text l small = go (is_items (size most_nodes allowed) text)
   where
-    member : (k : ℕ) → k < most_nodes → (has allowed k && has (mask_of most_nodes (names text)) (rank allowed k)) ≡ (has allowed k && names text (rank allowed k))
+    member : (k : ℕ) → k < most_nodes → (has allowed k && has (mask_of most_nodes (names text)) (rank allowed k)) ≡
+        (has allowed k && names text (rank allowed k))
     member k h = ap (λ (t : Bool). has allowed k && t) (has_mask_of most_nodes (names text) (rank allowed k) (omega (arith, rank_le allowed k)))
 
     -- no node from N on is allowed

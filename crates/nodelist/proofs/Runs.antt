@@ -95,7 +95,8 @@ pub record FirstRun (m a low ones : ℕ) : Type 0 where
   pub first : runs_from m a ≡ run_of low (low + ones - 1) ∷ runs_from m (low + ones - 1 + 1)
 
 -- the first run starts at the lowest node, and has the ones that follow
-first_at : (m a low : ℕ) → m < 2 ^ most_nodes → LowestFrom most_nodes m a low → FirstRun m a low (count_trailing_zeros most_nodes (all_nodes most_nodes - m / 2 ^ low))
+first_at : (m a low : ℕ) → m < 2 ^ most_nodes → LowestFrom most_nodes m a low → FirstRun m a low
+    (count_trailing_zeros most_nodes (all_nodes most_nodes - m / 2 ^ low))
 unfolding runs_from
 first_at m a low h l = record { some = some; within = within; first = first }
   where
@@ -114,7 +115,13 @@ first_at m a low h l = record { some = some; within = within; first = first }
     ones : (i : ℕ) → low ≤ i → i < low + t → bit m i ≡ 1
     ones i s j =
         let q : low + (i - low) ≡ i = omega arith in
-        omega (arith, trailing_le most_nodes rest, flipped (i - low) (omega (arith, trailing_le most_nodes rest)), zeros.0 (i - low) (omega arith), ap (bit m) q)
+        omega (
+          arith,
+          trailing_le most_nodes rest,
+          flipped (i - low) (omega (arith, trailing_le most_nodes rest)),
+          zeros.0 (i - low) (omega arith),
+          ap (bit m) q,
+        )
 
     ended : t < most_nodes → bit m (low + t) ≡ 0
     ended j = omega (arith, flipped t j, zeros.1 j)

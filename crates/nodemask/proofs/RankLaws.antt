@@ -17,7 +17,21 @@ use lib.Dec.{eqb, leb}
 use lib.Pow.{pow_pos}
 use Rattle.rules.specs.Masks.{bit, has, rank, select, lowest, insert, image, mask_of, all_nodes}
 use Rattle.rules.proofs.Lists.{both_true, same_test}
-use Rattle.rules.proofs.Masks.{bit_lt, bit_cases, bit_above, bit_none, none_in, not_in, bit_suc, bit_or_lem, bit_and_lem, bit_insert, bit_one, bit_other, bit_below}
+use Rattle.rules.proofs.Masks.{
+  bit_lt,
+  bit_cases,
+  bit_above,
+  bit_none,
+  none_in,
+  not_in,
+  bit_suc,
+  bit_or_lem,
+  bit_and_lem,
+  bit_insert,
+  bit_one,
+  bit_other,
+  bit_below,
+}
 use Rattle.rules.proofs.Masks.{bit_shift, same_nodes, rank_step, IsNode, none_under, select_at, select_is, size_pos}
 use Rattle.rules.proofs.Masks.{image_has, image_only, image_lt, below_width, has_or, mask_of_is, onto_lt, onto_member}
 

@@ -19,13 +19,37 @@ use Rattle.rules.specs.Masks.{most_nodes, has, is_empty}
 use Rattle.rules.specs.Records.{Mode, default, preferred, bind, interleave, list, ring, early, unknownMode, row_of, Carries, nothing, aMask}
 use Rattle.rules.specs.Records.{aList, unknown, aPlace}
 use Rattle.rules.specs.Records.{Flag, plain, static, relative, unknownFlag, carries, mode_of, flag_of, Policy, Turn, last_is, Record, job_count}
-use Rattle.rules.specs.Records.{job_table_ok, places_of, closes, record_at, put_record, unused_zero, cursor_limit, no_masks, effective_fits, masks_fit, data_fits}
+use Rattle.rules.specs.Records.{
+  job_table_ok,
+  places_of,
+  closes,
+  record_at,
+  put_record,
+  unused_zero,
+  cursor_limit,
+  no_masks,
+  effective_fits,
+  masks_fit,
+  data_fits,
+}
 use Rattle.rules.specs.Records.{mode_known, flag_known, well_formed, installed, rebound, with_turn}
 use Rattle.rules.specs.Maps.{map_bytes, turned, within_map}
 use Rattle.rules.specs.SearchOrder.{near, Try, try, Plan, nearest, placed, closed, tried, node_at, ring_tries, target, interleaved, listed, plan_in}
 use Rattle.rules.specs.SearchOrder.{mode_in_force, ring_places, plan, order, counted, chosen}
 use Rattle.rules.specs.Decisions.{Decision, refuse, accept}
-use Rattle.rules.specs.Calls.{Tables, Change, Store, after_stores, applied, jobs_ok, request_tables_ok, record_tables_ok, mapped_tables_ok, flag_fits, policy_known}
+use Rattle.rules.specs.Calls.{
+  Tables,
+  Change,
+  Store,
+  after_stores,
+  applied,
+  jobs_ok,
+  request_tables_ok,
+  record_tables_ok,
+  mapped_tables_ok,
+  flag_fits,
+  policy_known,
+}
 use Rattle.rules.specs.Calls.{map_of, is_mapped, policy_fits, install_fits, limit_of, order_of}
 use Rattle.rules.specs.Book.{Call, request, release, install, rebind, clear, fresh_table, keep_nodes, set_map, drain, decision, step, final}
 use Rattle.rules.proofs.Admission.{Passes, accepted}

@@ -224,7 +224,8 @@ unfolding count_trailing_zeros rank
 trailing_is zero m p h = absurd (omega arith)
 trailing_is (suc w) m p h = go (m % 2) refl (mod-lt m (zero-lt-suc 1)) (λ q. trailing_is w (m / 2) q (omega arith))
   where
-    go : (d : ℕ) → m % 2 ≡ d → d < 2 → (0 < m / 2 → IsNode (m / 2) w 0 (count_trailing_zeros w (m / 2))) → IsNode m (suc w) 0 (under d (count_trailing_zeros w (m / 2)))
+    go : (d : ℕ) → m % 2 ≡ d → d < 2 → (0 < m / 2 → IsNode (m / 2) w 0 (count_trailing_zeros w (m / 2))) → IsNode m (suc w) 0
+        (under d (count_trailing_zeros w (m / 2)))
     go zero e l ih =
         let i = ih (omega arith) in
         let t = count_trailing_zeros w (m / 2) in

@@ -190,7 +190,8 @@ pub record_words : (t : List ℕ) (j : ℕ) → record_at t j ≡ decode (words_
 unfolding record_at
 record_words t j =
     decode_same (take words_per_job (drop (words_per_job * j) t)) (words_from words_per_job (words_per_job * j) t)
-    (λ k h. get_or-take words_per_job (drop (words_per_job * j) t) k 0 h ∙ get_or-drop (words_per_job * j) t k 0 ∙ sym (words_at words_per_job (words_per_job * j) t k h))
+    (λ k h. get_or-take words_per_job (drop (words_per_job * j) t) k 0 h ∙ get_or-drop (words_per_job * j) t k 0 ∙ sym
+    (words_at words_per_job (words_per_job * j) t k h))
 
 -- to store a record leaves the table as long as it was
 pub length_put : (t : List ℕ) (j : ℕ) (r : Record) → length (put_record t j r) ≡ length t
@@ -234,7 +235,8 @@ record_other t i j r ne =
     ∙ sym (words_at words_per_job (words_per_job * j) t k h))
     ∙ sym (record_words t j)
   where
-    apart : (k : ℕ) → k < words_per_job → Dec (j < i) → (words_per_job * j + k < words_per_job * i) ⊎ (words_per_job * i + words_per_job ≤ words_per_job * j + k)
+    apart : (k : ℕ) → k < words_per_job → Dec (j < i) → (words_per_job * j + k < words_per_job * i) ⊎
+        (words_per_job * i + words_per_job ≤ words_per_job * j + k)
     apart k h (yes l) = inl (omega arith)
     apart k h (no l) = inr (let g : i < j = lt_of_le-ne (omega arith) ne in omega arith)
 

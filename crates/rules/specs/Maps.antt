@@ -1,5 +1,29 @@
 -- Request M-103, "Jobs that number from 0": the map of a job, and what it makes of the numbers that the job uses.
-use Rattle.std.specs.Prelude.{ℕ, suc, ◌-◌, ◌*◌, Bool, true, not, ◌&&◌, ◌||◌, cond, List, [], ◌∷◌, ◌++◌, map, length, get_or, take, drop, replicate, leb, ltb, eqb}
+use Rattle.std.specs.Prelude.{
+  ℕ,
+  suc,
+  ◌-◌,
+  ◌*◌,
+  Bool,
+  true,
+  not,
+  ◌&&◌,
+  ◌||◌,
+  cond,
+  List,
+  [],
+  ◌∷◌,
+  ◌++◌,
+  map,
+  length,
+  get_or,
+  take,
+  drop,
+  replicate,
+  leb,
+  ltb,
+  eqb,
+}
 use Rattle.std.proofs.lemmas.List.Edits.{sets}
 use Rattle.rules.specs.Basics.{all, any, but_last, is_nil, each, from, between}
 use Rattle.rules.specs.Masks.{most_nodes, below, mask_of, image}

@@ -1,5 +1,32 @@
 -- Document 01, "A job's record": the six words, what they hold, when they are well formed, and what install and rebind store.
-use Rattle.std.specs.Prelude.{ℕ, zero, suc, ◌+◌, ◌*◌, ◌/◌, ◌%◌, ◌^◌, Bool, true, false, not, ◌&&◌, ◌||◌, cond, List, [], ◌∷◌, ◌++◌, length, get_or, take, drop, replicate, leb, eqb}
+use Rattle.std.specs.Prelude.{
+  ℕ,
+  zero,
+  suc,
+  ◌+◌,
+  ◌*◌,
+  ◌/◌,
+  ◌%◌,
+  ◌^◌,
+  Bool,
+  true,
+  false,
+  not,
+  ◌&&◌,
+  ◌||◌,
+  cond,
+  List,
+  [],
+  ◌∷◌,
+  ◌++◌,
+  length,
+  get_or,
+  take,
+  drop,
+  replicate,
+  leb,
+  eqb,
+}
 use Rattle.std.proofs.lemmas.List.Edits.{sets}
 use Rattle.rules.specs.Basics.{all, last_or, between}
 use Rattle.rules.specs.Masks.{most_nodes, both, within, below, is_empty, folded, remapped}
@@ -274,5 +301,6 @@ with_turn r turn = record {
 -- for a proof that computes: `unfolding open_records` opens every definition of this file
 unfoldable pub open_records : Unit {0}
 unfolding row_of bytes_of from_bytes decode encode job_table_ok record_at put_record fresh places_of closes unused_zero is_known flag_known
-    allowed_fits cursor_limit cursor_fits no_masks effective_fits masks_fit data_fits well_formed effective_at_install installed effective_at_rebind rebound with_turn
+    allowed_fits cursor_limit cursor_fits no_masks effective_fits masks_fit data_fits well_formed effective_at_install installed effective_at_rebind
+    rebound with_turn
 open_records = tt

@@ -1,5 +1,30 @@
 -- Document 01, "Node-list text": the reader and the writer, on lists of bytes.
-use Rattle.std.specs.Prelude.{ℕ, suc, ◌+◌, ◌-◌, ◌*◌, ◌/◌, ◌%◌, Bool, true, false, not, ◌&&◌, ◌||◌, cond, List, [], ◌∷◌, ◌++◌, map, length, get_or, leb, ltb, eqb}
+use Rattle.std.specs.Prelude.{
+  ℕ,
+  suc,
+  ◌+◌,
+  ◌-◌,
+  ◌*◌,
+  ◌/◌,
+  ◌%◌,
+  Bool,
+  true,
+  false,
+  not,
+  ◌&&◌,
+  ◌||◌,
+  cond,
+  List,
+  [],
+  ◌∷◌,
+  ◌++◌,
+  map,
+  length,
+  get_or,
+  leb,
+  ltb,
+  eqb,
+}
 use Rattle.rules.specs.Basics.{all, any, keep, is_nil, from, between, same}
 use Rattle.rules.specs.Machine.{nodes_ok}
 use Rattle.rules.specs.Masks.{most_nodes, has, below, mask_of, rank, size}

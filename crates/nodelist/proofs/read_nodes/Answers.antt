@@ -41,4 +41,3 @@ returns c = let nodes-fine : nodes_ok c.args.nodes ≡ true = sym c.nodes_ok.ens
     c.read_form.ensures
     ∙ ap (λ (m : ℕ). decided (form_read c.args.nodes m (form_of c.args.text.now))) c.of-limit.ensures
     ∙ sym (decided_form c.args.nodes c.args.allowed c.args.text.now nodes-fine allowed-fine c.if-text-gt255.false)
-

@@ -28,4 +28,3 @@ returns c = let nodes-fine : nodes_ok c.args.nodes ≡ true = sym c.nodes_ok.ens
     c.write_text.ensures
     ∙ ap (λ (m : ℕ). written c.args.out.now (text_of m)) c.of-set.ensures
     ∙ sym (write_text_lem c.args.mask c.args.out.now c.args.nodes nodes-fine e)
-

@@ -59,4 +59,3 @@ returns-in-Full c = c.lowest_free-in-Full.ensures
     ∙ sym
     (pick_behind c.args.colour c.args.part.now c.args.from c.requires.0 c.requires.2
     (sym c.first_free-ahead.ensures ∙ ap offset_of c.in-Full.is))
-

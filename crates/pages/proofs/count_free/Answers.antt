@@ -18,4 +18,3 @@ pub loop-i-preserved : goal.loop-i-preserved
 loop-i-preserved c = let end : c.loop-i.i + (c.block_end-end.result - c.loop-i.i) ≡ c.block_end-end.result = omega (arith, c.block_end-end.ensures) in
     let split = rw (drop-drop, end) at (zeros_split (c.block_end-end.result - c.loop-i.i) (drop c.loop-i.i c.args.part.now)) in
     (search rules, omega (arith, split, c.loop-i.invariant.1, c.zeros_in.ensures))
-

@@ -43,4 +43,3 @@ loop-i-preserved c = let start : ℕ = c.loop-i.i in
     let inside : end ≤ length (part_of) = c.block_end-end.ensures.1 in
     let looked : c.lowest_zero.result ≡ zero_or_end (take (end - start) (drop (start) (part_of))) = c.lowest_zero.ensures in
     (inside, c.loop-i.invariant.1 ∙ block_none _ _ _ _ (le_of_lt forward) inside looked c.if-at-end.false)
-

@@ -15,4 +15,3 @@ loop-i-init c = (omega arith, λ e. under_none c.args.mask.now c.args.block.now)
 pub loop-i-preserved : goal.loop-i-preserved
 loop-i-preserved c = let next = under_next c.args.mask.now c.args.block.now c.loop-i.i c.lowest_of.result c.loop-i.any c.requires in
     (omega arith, next c.lowest_of.ensures c.loop-i.invariant.1)
-

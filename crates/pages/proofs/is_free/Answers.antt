@@ -9,4 +9,3 @@ returns-then-at-part c = free_read c.args.part.now c.args.at c.if-at-part.true
 
 pub returns : goal.returns
 returns c = free_past c.args.part.now c.args.at c.if-at-part.false
-

@@ -11,4 +11,3 @@ use Rattle.pages.proofs.lowest_zero.Goals as goal
 
 pub loop-i-init : goal.loop-i-init
 loop-i-init c = (refl, omega arith, omega arith, omega (arith, end_le c.args.block.now))
-

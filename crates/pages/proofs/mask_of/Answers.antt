@@ -10,4 +10,3 @@ use Rattle.pages.proofs.mask_of.Goals as goal
 
 pub returns : goal.returns
 returns c = shaded_all c.args.colour c.loop-i.mask (λ k h q. c.loop-i.invariant.2 k (omega (arith, h, c.loop-i.invariant.1, c.loop-i-test.false)) q)
-

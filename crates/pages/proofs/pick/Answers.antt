@@ -11,4 +11,3 @@ use Rattle.pages.proofs.pick.Goals as goal
 pub bounds-part-at : goal.bounds-part-at
 bounds-part-at c = let chosen : pick_of c.args.colour c.args.part.now ≡ some c.in-At.i.0 = sym c.choose-page.ensures ∙ ap offset_of c.in-At.is in
     pick_within c.args.colour c.args.part.now _ chosen
-

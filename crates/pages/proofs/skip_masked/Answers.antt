@@ -17,4 +17,3 @@ loop-start-preserved c = let e : HeldUnder c.args.mask.now 16 (take 128 (drop c.
       omega (arith, c.loop-start.invariant.1),
       λ k r. c.loop-start.invariant.2 k r ∙ held_past k c.args.part.now c.args.mask.now c.loop-start.start 128 r c.loop-start.invariant.1 (omega arith) e,
     )
-

@@ -26,17 +26,18 @@ loop-i-init c = record {
 }
 
 pub loop-i-preserved : goal.loop-i-preserved
-loop-i-preserved c = let left : (c.loop-i.i < length c.args.list.now) × (c.loop-i.i < length c.loop-i.out) = let t = both_true {a = ltb c.loop-i.i (length c.args.list.now)} c.loop-i-test.true in (ltb-true _ _ t.0, ltb-true _ _ t.1) in
+loop-i-preserved c = let left : (c.loop-i.i < length c.args.list.now) × (c.loop-i.i < length c.loop-i.out) = let t = both_true
+    {a = ltb c.loop-i.i (length c.args.list.now)} c.loop-i-test.true in (ltb-true _ _ t.0, ltb-true _ _ t.1) in
     let h = left in
     record {
       there = omega arith;
       room = omega (arith, h, c.loop-i.invariant.long);
       long = simp length-set c.loop-i.invariant.long;
-      done = λ w v e. rw (c.loop-i.invariant.done w v e) (fill_step w v c.args.list.now c.loop-i.i 0 h.0 (omega (arith, h, c.loop-i.invariant.long, wide c.args.out.now w v e)));
+      done = λ w v e. rw (c.loop-i.invariant.done w v e) (fill_step w v c.args.list.now c.loop-i.i 0 h.0
+          (omega (arith, h, c.loop-i.invariant.long, wide c.args.out.now w v e)));
     }
 
 pub returns : goal.returns
 returns c w v e = let n = wide c.args.out.now w v e in
     let end = reached (length c.args.list.now) w c.loop-i.i (rw (c.loop-i.invariant.long ∙ n) at c.loop-i-test.false) in
     c.loop-i.invariant.done w v e ∙ fill_end w v c.args.list.now c.loop-i.i c.loop-i.invariant.there (omega (arith, c.loop-i.invariant.room, n)) end
-

@@ -12,4 +12,3 @@ returns-then-text-ne3 c = sym (same_not c.args.text.now all_word c.if-text-ne3.t
 
 pub returns : goal.returns
 returns c = sym (same_three c.args.text.now 97 108 108 (omega arith))
-

@@ -11,11 +11,10 @@ use Rattle.nodelist.proofs.FormLaws.{items_below, past_mark}
 use Rattle.nodelist.proofs.forms.read_except.Goals as goal
 
 pub complement-requires : goal.complement-requires
-complement-requires c = let told : numbers_read c.read_items-items.result ≡ items_read c.args.nodes (drop 1 c.args.text.now) = c.read_items-items.ensures ∙ ap (items_read c.args.nodes) (past_mark c.args.text.now) in
-    (
+complement-requires c = let told : numbers_read c.read_items-items.result ≡ items_read c.args.nodes (drop 1 c.args.text.now) =
+    c.read_items-items.ensures ∙ ap (items_read c.args.nodes) (past_mark c.args.text.now) in (
       c.requires.1,
       rw c.nodes.ensures
           (subst (Below c.args.nodes) (sym told ∙ ap numbers_read c.in-Named.is)
           (items_below c.args.nodes (drop 1 c.args.text.now) c.requires.1)),
     )
-

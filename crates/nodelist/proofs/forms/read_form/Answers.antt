@@ -40,4 +40,3 @@ returns c = c.read_plain.ensures
     ∙ ap (form_read c.args.nodes c.args.allowed.0)
     (sym (form_items c.args.text.now (pos_of_ne-zero c.if-text-eq0.false) (sym c.is_all.ensures ∙ c.if-is_all.false)
     c.if-mark-eq33.false c.if-mark-eq43.false)))
-

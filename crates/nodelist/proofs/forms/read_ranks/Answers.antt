@@ -14,4 +14,3 @@ use Rattle.nodelist.proofs.forms.read_ranks.Goals as goal
 
 pub read_items-items-requires : goal.read_items-items-requires
 read_items-items-requires c = omega (arith, c.size.ensures, rank_le c.args.allowed.0 64)
-

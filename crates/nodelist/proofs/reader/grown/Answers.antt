@@ -12,4 +12,3 @@ returns-then-value-eq0 c = rw (eq-eqb _ 0 c.if-value-eq0.true)
 pub returns : goal.returns
 unfolding grown
 returns c = rw (ne_eqb _ 0 c.if-value-eq0.false)
-

@@ -11,13 +11,12 @@ use Rattle.nodelist.proofs.reader.read_items.Goals as goal
 
 pub loop-i-preserved : goal.loop-i-preserved
 loop-i-preserved c = let e = c.step-at.ensures in (
-      omega arith,
-      rw e (stepped_fits c.args.limit c.loop-i.at _ c.loop-i.invariant.1),
-      rw e (c.loop-i.invariant.2 ∙ reads_byte_at c.args.limit c.args.text.now c.loop-i.i c.loop-i.at (omega arith)),
-    )
+  omega arith,
+  rw e (stepped_fits c.args.limit c.loop-i.at _ c.loop-i.invariant.1),
+  rw e (c.loop-i.invariant.2 ∙ reads_byte_at c.args.limit c.args.text.now c.loop-i.i c.loop-i.at (omega arith)),
+)
 
 pub returns : goal.returns
 returns c = c.end.ensures
     ∙ ap ended (sym (c.loop-i.invariant.2 ∙ read_end c.args.limit c.args.text.now c.loop-i.at c.loop-i.i (omega arith)))
     ∙ reads_items c.args.limit c.args.text.now c.requires
-

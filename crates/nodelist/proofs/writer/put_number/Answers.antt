@@ -15,9 +15,9 @@ bounds-line-at c = omega (arith, rw (lt-ltb c.args.n 10 c.if-n-lt10.true) at c.r
 pub returns-then-n-lt10 : goal.returns-then-n-lt10
 unfolding decimal
 returns-then-n-lt10 c = rw (lt-ltb c.args.n 10 c.if-n-lt10.true) record {
-      end = refl;
-      put = refl;
-    }
+  end = refl;
+  put = refl;
+}
 
 pub bounds-line-at-2 : goal.bounds-line-at-2
 unfolding decimal
@@ -30,7 +30,6 @@ bounds-line-at-3 c = omega (arith, rw (le-ltb c.args.n 10 c.if-n-lt10.false) at 
 pub returns : goal.returns
 unfolding decimal
 returns c = rw (le-ltb c.args.n 10 c.if-n-lt10.false) record {
-      end = refl;
-      put = simp towards_suc;
-    }
-
+  end = refl;
+  put = simp towards_suc;
+}

@@ -9,7 +9,8 @@ pub put_number-mid-requires : goal.put_number-mid-requires
 put_number-mid-requires c = omega (arith, run_length c.args.low.0 c.args.high.0)
 
 pub returns-then-low-high : goal.returns-then-low-high
-returns-then-low-high c = let both = put_single c.args.low.0 c.args.high.0 c.args.line.now c.args.at c.put_number-mid.ensures.end c.put_number-mid.ensures.put c.if-low-high.true in
+returns-then-low-high c = let both = put_single c.args.low.0 c.args.high.0 c.args.line.now c.args.at c.put_number-mid.ensures.end
+    c.put_number-mid.ensures.put c.if-low-high.true in
     record { end = both.0; put = both.1 }
 
 pub bounds-line-mid : goal.bounds-line-mid
@@ -22,6 +23,6 @@ pub put_number-requires : goal.put_number-requires
 put_number-requires c = omega (arith, c.put_number-mid.ensures.end, double_room c.args.low.0 c.args.high.0 c.if-low-high.false)
 
 pub returns : goal.returns
-returns c = let both = put_double c.args.low.0 c.args.high.0 c.args.line.now c.args.at c.put_number-mid.ensures.end c.put_number-mid.ensures.put c.if-low-high.false c.put_number.ensures.end c.put_number.ensures.put in
+returns c = let both = put_double c.args.low.0 c.args.high.0 c.args.line.now c.args.at c.put_number-mid.ensures.end c.put_number-mid.ensures.put
+    c.if-low-high.false c.put_number.ensures.end c.put_number.ensures.put in
     record { end = both.0; put = both.1 }
-

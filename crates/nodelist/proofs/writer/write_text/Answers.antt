@@ -12,7 +12,8 @@ pub returns-then-len-eq0 : goal.returns-then-len-eq0
 returns-then-len-eq0 c = sym (text_empty c.args.mask.0 c.args.out.now (sym c.put_runs-len.ensures.len ∙ c.if-len-eq0.true))
 
 pub returns-then-len-out : goal.returns-then-len-out
-returns-then-len-out c = sym (text_too_long c.args.mask.0 c.args.out.now (omega (arith, c.if-len-out.true, c.put_runs-len.ensures.len, text_length c.args.mask.0)))
+returns-then-len-out c = sym (text_too_long c.args.mask.0 c.args.out.now
+    (omega (arith, c.if-len-out.true, c.put_runs-len.ensures.len, text_length c.args.mask.0)))
 
 pub returns : goal.returns
 returns c = text_copied c.args.mask.0 c.args.out.now
@@ -21,6 +22,6 @@ returns c = text_copied c.args.mask.0 c.args.out.now
     c.copy-size.ensures.count
     c.copy-size.ensures.bytes
 
--- TODO answer part-copy-end: no goal for slice-bounds-copy-end; needs ['put-runs-requires', 'returns', 'sub-if2', 'returns-2', 'sub-copy', 'part-copy-start', 'part-copy-end', 'copy-requires', 'same-length', 'returns-3']
+-- TODO answer part-copy-end: no goal for slice-bounds-copy-end; needs ['put-runs-requires', 'returns', 'sub-if2', 'returns-2', 'sub-copy',
+-- 'part-copy-start', 'part-copy-end', 'copy-requires', 'same-length', 'returns-3']
 -- TODO     long_enough _ _ (line_of c.args.mask.0) c.put_runs-len.ensures.len c.put_runs-len.ensures.text
-

@@ -11,7 +11,10 @@ use Rattle.nodemask.proofs.RankLaws.{image_ranked}
 use Rattle.nodemask.proofs.Mask.folded.Goals as goal
 
 pub wrapped-ranks-requires : goal.wrapped-ranks-requires
-wrapped-ranks-requires c = (omega (arith, c.size.ensures, size_pos 64 c.args.allowed.0 c.requires (omega arith)), omega (arith, c.size.ensures, rank_le c.args.allowed.0 64))
+wrapped-ranks-requires c = (
+  omega (arith, c.size.ensures, size_pos 64 c.args.allowed.0 c.requires (omega arith)),
+  omega (arith, c.size.ensures, rank_le c.args.allowed.0 64),
+)
 
 pub returns : goal.returns
 unfolding folded wrapped ranked_in

@@ -13,7 +13,12 @@ use Rattle.nodemask.proofs.RankLaws.{by_rank, both_left, ranked_start, ranked_mo
 use Rattle.nodemask.proofs.Mask.ranked.Goals as goal
 
 pub overflow_shl-out : goal.overflow_shl-out
-overflow_shl-out c = omega (arith, c.lowest-node.ensures, (lowest_is 64 c.loop-left.left.0 (both_left c.loop-left.left.0 c.loop-left.bits c.loop-left-test.true) (omega arith)).small)
+overflow_shl-out c = omega (
+  arith,
+  c.lowest-node.ensures,
+  (lowest_is 64 c.loop-left.left.0
+      (both_left c.loop-left.left.0 c.loop-left.bits c.loop-left-test.true) (omega arith)).small,
+)
 
 pub loop-left-smaller : goal.loop-left-smaller
 loop-left-smaller c = lowest_less 64 c.loop-left.left.0 (both_left c.loop-left.left.0 c.loop-left.bits c.loop-left-test.true) (omega arith) c.rest-left.ensures
@@ -30,6 +35,7 @@ loop-left-preserved c = let p : 0 < c.loop-left.left.0 = both_left c.loop-left.l
 
 pub returns : goal.returns
 unfolding ranked_in
-returns c = ranked_all 64 c.args.self.0 c.args.ranks.0 c.loop-left.left.0 c.loop-left.bits c.loop-left.out c.loop-left.invariant.0 c.loop-left-test.false c.loop-left.invariant.1
+returns c = ranked_all 64 c.args.self.0 c.args.ranks.0 c.loop-left.left.0 c.loop-left.bits c.loop-left.out c.loop-left.invariant.0
+    c.loop-left-test.false c.loop-left.invariant.1
 
 -- TODO open: nodemask::Mask::lowest nodemask::Mask::rest

@@ -9,4 +9,8 @@ use Rattle.nodemask.proofs.RankLaws.{lowest_off}
 use Rattle.nodemask.proofs.Mask.rest.Goals as goal
 
 pub returns : goal.returns
-returns c = omega (arith, lowest_off 64 c.args.self.0 c.requires (omega arith), ap (λ (k : ℕ). 2 ^ k) (trailing_select 64 c.args.self.0 c.requires (omega arith)))
+returns c = omega (
+  arith,
+  lowest_off 64 c.args.self.0 c.requires (omega arith),
+  ap (λ (k : ℕ). 2 ^ k) (trailing_select 64 c.args.self.0 c.requires (omega arith)),
+)

@@ -30,7 +30,7 @@ unfolding target
 returns c = let some-node : 0 < c.args.self.0 = pos_of_ne-zero (eqb-false c.args.self.0 0 (sym c.is_empty.ensures ∙ c.if-is_empty.false)) in
     let none_above : c.args.self.0 / 2 ^ c.args.cursor ≡ 0 =
     elim c.if-cursor-lt-MOST_NODES.branch [
-      then-cursor-lt-MOST_NODES+else-above-ne0 w ↦ w.if-above-ne0.false
+      | then-cursor-lt-MOST_NODES+else-above-ne0 w ↦ w.if-above-ne0.false
       | else-cursor-lt-MOST_NODES w ↦ div-eq_of_lt (lt_of_lt_of_le (omega arith) (pow_mono w.if-cursor-lt-MOST_NODES.false))
     ] in
     sym (turn_round 64 c.args.self.0 c.args.cursor c.requires none_above some-node)

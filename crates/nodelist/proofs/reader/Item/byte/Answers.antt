@@ -20,4 +20,3 @@ returns-then-x-gt57 c = rw (ne_eqb _ 45 c.if-x-eq45.false, le-leb 48 _ c.if-x-lt
 pub returns : goal.returns
 unfolding with_byte
 returns c = rw (ne_eqb _ 45 c.if-x-eq45.false, le-leb 48 _ c.if-x-lt48.false, le-leb _ 57 c.if-x-gt57.false, c.digit.ensures)
-

@@ -23,4 +23,3 @@ returns-in-Range c = rw c.in-Range.is
 pub returns-in-Broken : goal.returns-in-Broken
 unfolding with_dash
 returns-in-Broken c = rw c.in-Broken.is
-

@@ -26,4 +26,3 @@ returns-in-Range c = rw (c.range-in-Range.ensures, c.grown-in-Range.ensures, c.i
 pub returns-in-Broken : goal.returns-in-Broken
 unfolding with_digit
 returns-in-Broken c = rw c.in-Broken.is
-

@@ -11,4 +11,3 @@ returns-then-value-limit c = rw (lt-ltb _ _ c.if-value-limit.true)
 pub returns : goal.returns
 unfolding number_below
 returns c = rw (le-ltb _ _ c.if-value-limit.false)
-

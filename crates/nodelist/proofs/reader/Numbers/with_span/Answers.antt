@@ -9,4 +9,3 @@ use Rattle.nodelist.proofs.reader.Numbers.with_span.Goals as goal
 pub overflow_sub-result : goal.overflow_sub-result
 overflow_sub-result c = let under : 2 ^ c.args.low ≤ 2 ^ (c.args.high + 1) = pow_mono (omega arith) in
     omega (arith, c.low_bits.ensures, c.low_bits-under.ensures, under)
-

@@ -34,4 +34,3 @@ returns-else-low-high c = rw (c.in-Range.is, lt-leb _ _ c.if-low-high.false)
 pub returns-in-Broken : goal.returns-in-Broken
 unfolding closed
 returns-in-Broken c = rw c.in-Broken.is
-

@@ -23,4 +23,3 @@ returns-in-Range c = rw (← c.close-last.ensures, c.in-Range.is)
 pub returns-in-Broken : goal.returns-in-Broken
 unfolding ended
 returns-in-Broken c = rw (← c.close-last.ensures, c.in-Broken.is)
-

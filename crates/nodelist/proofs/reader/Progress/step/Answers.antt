@@ -13,4 +13,3 @@ returns-then-x-eq44 c = rw (c.close.ensures, eq-eqb _ 44 c.if-x-eq44.true)
 pub returns : goal.returns
 unfolding stepped
 returns c = rw (c.byte.ensures, ne_eqb _ 44 c.if-x-eq44.false)
-
