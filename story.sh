@@ -3,6 +3,6 @@
 set -euo pipefail
 script=$(realpath "${1:-$(dirname "$0")/tests/story/scripts/rent.txt}")
 cd "$(dirname "$0")"
-library=${SPIRERIVET_LIB:-$PWD/target/staticlib}/libspirerivet.a
-[ -f "$library" ] || rt staticlib spirerivet >&2
+library=${SPIRERIVET_LIB:-$PWD/crates/spirerivet/out}/libspirerivet.a
+[ -f "$library" ] || (cd crates/spirerivet && rt lib) >&2
 cargo run --offline --quiet --manifest-path tests/Cargo.toml -p story -- run "$script"

@@ -14,9 +14,10 @@ from pathlib import Path
 
 ROOT = Path(__file__).resolve().parent.parent
 CRATES = ROOT / "crates"
-NAME = r"[\w′'-]+"
+NAME = r"[\w']+"
 PATH = re.compile(r"(?<![\w/])(?:crates|tests|docs|hosts|bench|\.ci)/[\w./*-]*[\w*/]")
-FILE = re.compile(r"(?!target/)[\w.*-]+(?:/[\w.*-]+)*/[\w*-]+\.[a-z]+")
+MADE = re.compile(r"crates/[a-z]+/out/")
+FILE = re.compile(r"[\w.*-]+(?:/[\w.*-]+)*/[\w*-]+\.[a-z]+")
 CODE = re.compile(r"([a-z]+)((?:::\w+)+)(?: (by|ensures) (" + NAME + r"))?")
 
 
@@ -51,13 +52,12 @@ def contract(crate, names):
     """The head of a public function, with its contract, up to the body's brace; none if there is no such function."""
     files = [f"{names[0]}.rt"] if len(names) == 2 else ["lib.rt", "main.rt"]
     for file in files:
-        found = re.search(
-            rf'^(?:pub (?:extern "C" )?fn|fn(?= main\b)) {names[-1]}\b(?:[^\n]*\{{$|.*?^\{{$)',
-            text_of(CRATES / crate / "src" / file),
-            re.M | re.S,
-        )
-        if found:
-            return found.group(0)
+        text = text_of(CRATES / crate / "src" / file)
+        found = re.search(rf'^(?:pub (?:extern "C" )?fn|fn(?= main\b)) {names[-1]}\b', text, re.M)
+        # a clause's braces stand further in than the body's
+        body = found and re.compile(r"^(?:\S.*)?\{$|^\S.*\{.*\}$", re.M).search(text, found.start())
+        if body:
+            return text[found.start() : body.end()]
     return None
 
 
@@ -67,9 +67,12 @@ def code_fault(crate, names, word=None, cited=None):
     source = CRATES / crate / "src"
     head = contract(crate, names)
     if word:
-        wanted = {"by": rf"[ (]{re.escape(cited or '')}[ )]", "ensures": rf"\bensures {re.escape(cited or '')} "}[word]
-        ensured = (head or "")[(head or "").find("ensures"):]
-        return None if re.search(wanted, ensured) else f"no contract of {whole} {word} {cited}"
+        wanted = {"by": rf"[ (]{re.escape(cited)}[ )]", "ensures": rf"^ *ensures {re.escape(cited)} \{{"}[word]
+        ensured = re.search(r"^ *ensures\b.*", head or "", re.M | re.S)
+        clauses = ensured.group(0) if ensured else ""
+        if word == "by":
+            clauses = re.sub(r"^( *ensures) \w+ \{", r"\1 {", clauses, flags=re.M)
+        return None if re.search(wanted, clauses, re.M) else f"no contract of {whole} {word} {cited}"
     file = source / (f"{names[0]}.rt" if len(names) == 2 else "lib.rt")
     a_type = re.search(rf"^pub (?:struct|enum|const|type) {names[-1]}\b", text_of(file), re.M)
     a_module = len(names) == 1 and (source / f"{names[0]}.rt").is_file()
@@ -82,7 +85,7 @@ def requires_fault(name):
     head = contract(crate, names) if names else None
     if head is None:
         return f"no public function {name}"
-    return f"{name} requires something" if "requires" in head else None
+    return f"{name} requires something" if re.search(r"^ *requires\b", head, re.M) else None
 
 
 def edit_fault(crate, name):
@@ -120,9 +123,9 @@ def tokens(line):
 
 
 def path_faults(line):
-    """Paths of the repository that lead nowhere; what the gate builds in target is left out."""
+    """Paths of the repository that lead nowhere; what is built there is left out."""
     for path in sorted(set(PATH.findall(line)) | {token for token in tokens(line) if FILE.fullmatch(token)}):
-        if not any(ROOT.glob(path.rstrip("/"))):
+        if not MADE.match(path) and not any(ROOT.glob(path.rstrip("/"))):
             yield f"no {path}"
 
 

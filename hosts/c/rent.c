@@ -2,8 +2,8 @@
  * program that names its memory, asks why a node serves or not, and empties a node so that its board can be pulled: prints
  * each answer.
  *
- *   rt staticlib spirerivet
- *   gcc -std=c11 hosts/c/rent.c target/staticlib/libspirerivet.a -o rent && ./rent | diff hosts/c/expected.txt -
+ *   (cd crates/spirerivet && rt lib)
+ *   gcc -std=c11 hosts/c/rent.c crates/spirerivet/out/libspirerivet.a -o rent && ./rent | diff hosts/c/expected.txt -
  *
  * C++ compiles it too: g++ -x c++ in the place of gcc -std=c11, and -x none before the archive.
  */

@@ -1,4 +1,4 @@
-/* Spirerivet for hosts in C and C++: link target/staticlib/libspirerivet.a (rt staticlib spirerivet).
+/* Spirerivet for hosts in C and C++: link crates/spirerivet/out/libspirerivet.a (rt lib in crates/spirerivet).
  *
  * All tables belong to the caller and are lent for one call. A table is a pointer, then its number of ELEMENTS. The pointer
  * must be valid and not null, even for a length of 0; a table that a call may write must overlap no other.
