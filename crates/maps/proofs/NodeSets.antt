@@ -39,7 +39,8 @@ set_has ks b l = has_mask_of most_nodes (is_in ks) b l
 set_with : (xs ys : List ℕ) (k : ℕ) → k < most_nodes → ((n : ℕ) → is_in ys n ≡ (eqb n k || is_in xs n)) → insert (set_of xs) k ≡ set_of ys
 unfolding set_of
 set_with xs ys k h e =
-    mask_of_is most_nodes (insert (set_of xs) k) (is_in ys) (insert_lt most_nodes (set_of xs) k (mask_of_lt most_nodes (is_in xs)) h) (λ n l. go n l (ℕ_discrete n k))
+    mask_of_is most_nodes (insert (set_of xs) k) (is_in ys) (insert_lt most_nodes (set_of xs) k (mask_of_lt most_nodes (is_in xs)) h)
+    (λ n l. go n l (ℕ_discrete n k))
   where
     go : (n : ℕ) → n < most_nodes → Dec (n ≡ k) → has (insert (set_of xs) k) n ≡ is_in ys n
     go n l (yes q) = ap (has (insert (set_of xs) k)) q ∙ has_insert (set_of xs) k ∙ sym (e n ∙ rw (eq-eqb n k q) refl)

@@ -8,8 +8,7 @@ use native.Mathlib.Omega.{arith}
 use borrow.Author.Rules.{rules}
 use lib.ListN.{length, take, drop, length-take, drop_of_length-le}
 use lib.Seq.{sets, sets-eq, take-length, drop-drop}
-use Rattle.maps.proofs.turning.store.Statement.{statement}
-use Rattle.maps.proofs.turning.store.Tie as tie
+use Rattle.maps.proofs.turning.store.Goals as goal
 
 -- a part of a table that a copy fills: the table with those entries
 filled-part : (table xs part : List ℕ) (at k : ℕ) → length xs ≡ k → at + k ≤ length table
@@ -23,14 +22,5 @@ filled-part table xs part at k n h e =
     ∙ ap (λ (m : ℕ). take at table ++ xs ++ drop (at + m) table) (sym n)
     ∙ sym (sets-eq xs table at (omega arith)))
 
-returns : tie.Need-returns
-returns c =
-    let s = c.before.before.before.before.before.before in
-    filled-part s.args.maps.now s.args.t3 _ (64 * s.args.job) 64 (search rules) s.requires c.before.before.copy.ensures.1
-
-pub store_spec : {M : Type 1} → statement M
-store_spec =
-    tie.close
-    (tie.spec
-    (search rules) (search rules) (search rules) (search rules) (search rules) (search rules) (search rules) (search rules)
-    returns)
+pub returns : goal.returns
+returns c = filled-part c.args.maps.now c.args.bytes _ (64 * c.args.job) 64 (search rules) c.requires c.copy.ensures.bytes
