@@ -1,0 +1,11 @@
+-- `clear` does what the rules say, for all inputs.
+-- Assumes nothing.
+use mathlib.Core.Path.{sym, ◌∙◌}
+use borrow.Author.Rules.{rules}
+use borrow.Author.Tests.{not-true, not-false}
+use Rattle.rules.specs.Calls.{applied, on_clear, clear_decision}
+use Rattle.records.proofs.clear.Goals as goal
+
+pub returns-then-not-tables_ok : goal.returns-then-not-tables_ok
+unfolding applied on_clear clear_decision
+returns-then-not-tables_ok c t = rw (sym c.tables_ok.ensures ∙ c.if-not-tables_ok.true)

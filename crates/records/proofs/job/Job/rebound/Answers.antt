@@ -1,0 +1,9 @@
+-- `Job::rebound` replaces the allowed mask.
+-- Assumes nothing.
+use borrow.Author.Rules.{rules}
+use Rattle.records.specs.Jobs.{job_of}
+use Rattle.records.proofs.job.Job.rebound.Goals as goal
+
+pub returns : goal.returns
+unfolding job_of
+returns c = c.rebound-mode.ensures _
