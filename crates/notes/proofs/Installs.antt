@@ -15,7 +15,19 @@ use Rattle.rules.specs.Masks.{is_empty}
 use Rattle.rules.specs.Records.{Policy, policy, row_of, is_known, flag_known, places_per_job, closing_place, closes, record_at, well_formed, installed}
 use Rattle.rules.specs.Maps.{map_size, map_bytes, nodes_in, good_map, system_node, turned, named_places, within_map}
 use Rattle.rules.specs.Decisions.{accept}
-use Rattle.rules.specs.Calls.{Tables, map_of, is_job, is_mapped, mapped_tables_ok, flag_fits, policy_known, policy_fits, install_fits, install_decision, storing}
+use Rattle.rules.specs.Calls.{
+  Tables,
+  map_of,
+  is_job,
+  is_mapped,
+  mapped_tables_ok,
+  flag_fits,
+  policy_known,
+  policy_fits,
+  install_fits,
+  install_decision,
+  storing,
+}
 use Rattle.rules.specs.Notes.{table_ok, note_places, places_decision}
 use Rattle.rules.proofs.Decisions.{passed}
 use Rattle.rules.proofs.Lists.{both_true, both_hold}

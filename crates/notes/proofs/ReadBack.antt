@@ -12,7 +12,21 @@ use Rattle.rules.specs.Basics.{each}
 use Rattle.rules.specs.Records.{bytes_of}
 use Rattle.rules.specs.Decisions.{accept, refuse}
 use Rattle.rules.specs.Journal.{part, number}
-use Rattle.rules.specs.Notes.{strings, in_front, size_of, list_ok, head_size, text_count, text_size, data_count, data_size, text_part, data_part, note_ok, all_names}
+use Rattle.rules.specs.Notes.{
+  strings,
+  in_front,
+  size_of,
+  list_ok,
+  head_size,
+  text_count,
+  text_size,
+  data_count,
+  data_size,
+  text_part,
+  data_part,
+  note_ok,
+  all_names,
+}
 use Rattle.rules.specs.Notes.{in_part, name_part, head_of, note_of, note_decision, write_note}
 use Rattle.rules.proofs.Bytes.{from_bytes_lem}
 use Rattle.rules.proofs.Decisions.{passed}

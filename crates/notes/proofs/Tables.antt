@@ -55,7 +55,8 @@ module _ (table : List ℕ) (i e : ℕ) (l : i ≤ length table) (at : e ≡ i +
         (eqb (size_of (take (e - i) (drop i table) ∷ strings (drop (e + 1) table))) (length (drop i table))
         && eqb (n + suc (length (strings (drop (e + 1) table)))) nodes))
 
-    pub rest_good : (nodes : ℕ) → name_ok (take (e - i) (drop i table)) false ≡ true → rest_ok nodes n (drop i table) ≡ rest_ok nodes (n + 1) (drop (e + 1) table)
+    pub rest_good : (nodes : ℕ) → name_ok (take (e - i) (drop i table)) false ≡ true → rest_ok nodes n (drop i table) ≡ rest_ok nodes (n + 1)
+        (drop (e + 1) table)
     unfolding rest_ok all size_of
     rest_good nodes t =
         let w = take (e - i) (drop i table) in
