@@ -1,0 +1,23 @@
+-- `search::search_near` meets its contract: the nearest node that is counted above 0 is the first of near(x) that is.
+-- Assumes nothing.
+use mathlib.Core.Path.{◌≡◌, refl, sym, ap, ◌∙◌}
+use mathlib.Core.List.{map}
+use borrow.Author.Rules.{rules}
+use lib.ListN.{length}
+use Rattle.rules.specs.SearchOrder.{try, near, chosen}
+use Rattle.nodemask.specs.Found.{found_node}
+use Rattle.records.specs.Jobs.{turn_of}
+use Rattle.placement.proofs.Searches.{try_at, near_chosen}
+use Rattle.placement.proofs.search.search_near.Goals as goal
+
+pub returns-in-At : goal.returns-in-At
+returns-in-At c = let found : try_at (turn_of c.args.cursor) (found_node c.nearest-found.result) ≡ chosen c.args.free.now
+    (map (try (turn_of c.args.cursor)) (near (length c.args.free.now) c.args.distances.now c.args.set.0 c.args.x.0)) = ap
+    (try_at (turn_of c.args.cursor)) c.nearest-found.ensures ∙ sym (near_chosen _ _ _) in
+    rw c.in-At.is at found
+
+pub returns-in-Nothing : goal.returns-in-Nothing
+returns-in-Nothing c = let found : try_at (turn_of c.args.cursor) (found_node c.nearest-found.result) ≡ chosen c.args.free.now
+    (map (try (turn_of c.args.cursor)) (near (length c.args.free.now) c.args.distances.now c.args.set.0 c.args.x.0)) = ap
+    (try_at (turn_of c.args.cursor)) c.nearest-found.ensures ∙ sym (near_chosen _ _ _) in
+    rw c.in-Nothing.is at found

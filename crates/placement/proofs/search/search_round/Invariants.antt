@@ -1,0 +1,28 @@
+-- `search::search_round` meets its contract. The loop's invariant: what the places from the position on choose is the choice.
+-- Assumes nothing.
+use Prim.Native.Nat.{ℕ, ◌+◌, ◌-◌, ◌≤◌, ◌<◌}
+use mathlib.Core.Path.{◌≡◌, refl, sym, ap, ◌∙◌}
+use mathlib.Core.List.{List, [], ◌∷◌, ◌++◌}
+use native.Mathlib.Nat.{mod-lt}
+use native.Mathlib.Omega.{arith}
+use borrow.Author.Rules.{rules}
+use lib.ListN.{length, get_or}
+use Rattle.rules.specs.Records.{Turn}
+use Rattle.rules.specs.SearchOrder.{Try, try, tried, chosen}
+use Rattle.records.specs.Jobs.{turn_of}
+use Rattle.placement.specs.declared.plan.Walk.{Walk}
+use Rattle.placement.specs.Plans.{leaves, round_tries}
+use Rattle.placement.proofs.Searches.{open_first, open_rest, none_tried, round_step, round_none}
+use Rattle.placement.proofs.search.search_round.Given as goal
+
+-- the tries from a position on
+abbrev pub rest : ℕ → ℕ → Walk → List ℕ → ℕ → ℕ → List Try
+rest n limit walk places position left = tried n limit (round_tries walk.moves places (turn_of walk.cursor) walk.len position left)
+
+abbrev pub invariant-loop-left : goal.invariant-loop-left
+invariant-loop-left l = (l.position ≤ l.walk.len) × (l.left ≤ l.walk.len)
+    × (chosen l.free (rest (length l.free) l.limit.0 l.walk l.places l.position l.left)
+    ≡ chosen l.free (rest (length l.free) l.limit.0 l.walk l.places l.walk.cursor l.walk.len))
+
+abbrev pub decreases-loop-left : goal.decreases-loop-left
+decreases-loop-left l = l.left
