@@ -1,0 +1,36 @@
+-- `hints::release` meets its contract: the release, its page told to the hints, and the answer in the job's numbers.
+-- Assumes nothing.
+use borrow.Author.Rules.{rules}
+use Rattle.rules.specs.Calls.{Tables, tables_of, map_of}
+use Rattle.rules.proofs.InOrder.{fresh_ok, pages_in_order_lem}
+use Rattle.placement.specs.Hints.{Hints, hinted, Named}
+use Rattle.placement.proofs.Hints.{release_hints}
+use Rattle.placement.proofs.Requests.{release_map}
+use Rattle.book.proofs.hints.release.Goals as goal
+
+pub keep-requires : goal.keep-requires
+keep-requires c = let tables : Tables = tables_of c.args.pages.now c.args.jobs.now c.args.free.now c.args.maps.now in
+    let after : Hints c.args.counts.now c.release_at-placed.new.pages
+    (hinted c.args.starts.now c.args.job c.args.hints.now c.release_at-placed.result) × Named c.args.starts.now c.release_at-placed.result = let
+    i = (pages_in_order_lem _ _ _ (fresh_ok _ (tables) c.requires.0)).counts_ok_lem in
+    release_hints c.args.counts.now c.args.starts.now (tables) c.args.hints.now i c.requires.1 c.requires.2 c.args.job c.args.page
+    c.release_at-placed.result (map_of (tables) c.args.job) c.release_at-placed.ensures.found c.release_at-placed.ensures.did in
+    after.1
+
+pub tell-requires : goal.tell-requires
+tell-requires c = let tables : Tables = tables_of c.args.pages.now c.args.jobs.now c.args.free.now c.args.maps.now in
+    release_map _ tables c.args.job c.args.page (map_of tables c.args.job) c.release_at-placed.result c.requires.0
+    c.release_at-placed.ensures.did
+
+pub returns : goal.returns
+unfolding map_of
+returns c = let tables : Tables = tables_of c.args.pages.now c.args.jobs.now c.args.free.now c.args.maps.now in
+    let after : Hints c.args.counts.now c.release_at-placed.new.pages
+    (hinted c.args.starts.now c.args.job c.args.hints.now c.release_at-placed.result) × Named c.args.starts.now c.release_at-placed.result = let
+    i = (pages_in_order_lem _ _ _ (fresh_ok _ (tables) c.requires.0)).counts_ok_lem in
+    release_hints c.args.counts.now c.args.starts.now (tables) c.args.hints.now i c.requires.1 c.requires.2 c.args.job c.args.page
+    c.release_at-placed.result (map_of (tables) c.args.job) c.release_at-placed.ensures.found c.release_at-placed.ensures.did in
+    record {
+      did = rw c.tell.ensures c.release_at-placed.ensures.did;
+      kept = rw c.keep.ensures after.0;
+    }
