@@ -42,7 +42,7 @@ def files(*ends):
 
 
 def is_function_folder(path):
-    return "/proofs/" in path and os.path.basename(path) in ("Proof.antt", "Answers.antt", "Invariants.antt")
+    return path.count("/") > 3 and "/proofs/" in path and os.path.basename(path) in ("Proof.antt", "Answers.antt", "Invariants.antt")
 
 
 def text(path):

@@ -17,14 +17,14 @@ use Rattle.journal.proofs.Records.{good_record}
 -- ---- "Answers are 12 bytes"
 
 -- an answer
-pub answer-length : (kind : ℕ) (ns : List ℕ) → length (answer_bytes kind ns) ≡ answer_size
+pub answer_length : (kind : ℕ) (ns : List ℕ) → length (answer_bytes kind ns) ≡ answer_size
 unfolding answer_bytes
-answer-length kind ns = omega (arith, bytes_length 4 (byte_at ns 2))
+answer_length kind ns = omega (arith, bytes_length 4 (byte_at ns 2))
 
 -- an answer that ends the run
-pub fault-length : (r : ℕ) → length (faulty r) ≡ answer_size
+pub fault_length : (r : ℕ) → length (faulty r) ≡ answer_size
 unfolding faulty
-fault-length r = answer-length 0xFF (numbers (refused r))
+fault_length r = answer_length 0xFF (numbers (refused r))
 
 -- ---- one record after the other
 
@@ -57,25 +57,25 @@ module _ (m : Machine) where
           ap (λ (xs : List ℕ). answer_to m t e ++ xs) (ih (left t e) (drop e.size (b ∷ bs)) (omega arith) (omega arith))
 
   -- a good record: its answer, and then the rest on the tables that it leaves
-  pub run-next : (t : Tables) (bs : List ℕ) {e : Entry} → read_record bs ≡ accept e → run_of m t bs ≡ answer_to m t e ++ run_of m (left t e) (drop e.size bs)
+  pub run_next : (t : Tables) (bs : List ℕ) {e : Entry} → read_record bs ≡ accept e → run_of m t bs ≡ answer_to m t e ++ run_of m (left t e) (drop e.size bs)
   unfolding run_from
-  run-next t [] q = let g = good_record [] q in absurd (omega arith)
-  run-next t (b ∷ bs) {e} q =
+  run_next t [] q = let g = good_record [] q in absurd (omega arith)
+  run_next t (b ∷ bs) {e} q =
       let l : length (drop e.size (b ∷ bs)) ≡ length (b ∷ bs) - e.size = length-drop e.size (b ∷ bs) in
       let s = (good_record (b ∷ bs) q).least in
       rw q (ap (λ (xs : List ℕ). answer_to m t e ++ xs)
       (enough (length bs) (length (drop e.size (b ∷ bs))) (left t e) (drop e.size (b ∷ bs)) (omega arith) (omega arith)))
 
   -- "A bad mark, kind, unused byte or short record .. answers kind FF, refusal 13, .. and ends"
-  pub run-damaged : (t : Tables) (bs : List ℕ) {r : ℕ} → 0 < length bs → read_record bs ≡ refuse r → run_of m t bs ≡ faulty r
+  pub run_damaged : (t : Tables) (bs : List ℕ) {r : ℕ} → 0 < length bs → read_record bs ≡ refuse r → run_of m t bs ≡ faulty r
   unfolding run_from
-  run-damaged t [] l q = absurd (omega arith)
-  run-damaged t (b ∷ bs) l q = rw q
+  run_damaged t [] l q = absurd (omega arith)
+  run_damaged t (b ∷ bs) l q = rw q
 
   -- a run that is not at its end has an answer more
-  pub run-some : (t : Tables) (bs : List ℕ) → 0 < length bs → answer_size ≤ length (run_of m t bs)
-  run-some t bs l = go (read_record bs) refl
+  pub run_some : (t : Tables) (bs : List ℕ) → 0 < length bs → answer_size ≤ length (run_of m t bs)
+  run_some t bs l = go (read_record bs) refl
     where
       go : (d : Decision Entry) → read_record bs ≡ d → answer_size ≤ length (run_of m t bs)
-      go (refuse r) q = rw (run-damaged t bs l q) (omega (arith, fault-length r))
-      go (accept e) q = rw (run-next t bs q, length-append) (omega (arith, answer-length e.kind (numbers (step m t e.call).answer)))
+      go (refuse r) q = rw (run_damaged t bs l q) (omega (arith, fault_length r))
+      go (accept e) q = rw (run_next t bs q, length-append) (omega (arith, answer_length e.kind (numbers (step m t e.call).answer)))

@@ -22,7 +22,7 @@ use Rattle.rules.proofs.AsBefore.{answers_as_before}
 use Rattle.journal.specs.Parts.{answer_size, run_of, is_ready, ran, answer_to, one_record, after, part_from, put_into, on_part}
 use Rattle.journal.specs.BookRun.{records_from, records_in, past, calls, answer_lines, book_lines, ending, book_run, uncounted_run, meets_damage, book_part}
 use Rattle.journal.proofs.Records.{short_left, short_damaged, good_record, damage}
-use Rattle.journal.proofs.Answers.{answer-length, fault-length, enough, run_next, run-damaged}
+use Rattle.journal.proofs.Answers.{answer_length, fault_length, enough, run_next, run_damaged}
 use Rattle.journal.proofs.Parts.{done, part_waits}
 
 -- ---- the records
@@ -52,7 +52,7 @@ records_are bs = records_from_lem (length bs) bs (omega arith)
 at_end : (m : Machine) (t : Tables) (bs : List ℕ) {r : ℕ} → read_record bs ≡ refuse r → run_of m t bs ≡ ending bs
 unfolding run_from
 at_end m t [] q = refl
-at_end m t (b ∷ bs) q = run-damaged m t (b ∷ bs) (omega arith) q ∙ ap faulty (damage (b ∷ bs) q)
+at_end m t (b ∷ bs) q = run_damaged m t (b ∷ bs) (omega arith) q ∙ ap faulty (damage (b ∷ bs) q)
 
 by_book : (m : Machine) {bs : List ℕ} {es : List Entry} → Records bs es → (t : Tables) → run_of m t bs ≡ book_lines m t es ++ ending (past bs es)
 unfolding answer_lines answers sum
@@ -73,7 +73,7 @@ unfolding answer_lines answers
 lines_length m t [] = refl
 lines_length m t (e ∷ es) =
     let t' = (step m t e.call).tables in
-    rw length-append (omega (arith, answer-length e.kind (numbers (step m t e.call).answer), lines_length m t' es))
+    rw length-append (omega (arith, answer_length e.kind (numbers (step m t e.call).answer), lines_length m t' es))
 
 -- the records' form alone decides it: not the tables
 same_size : (m : Machine) (t u : Tables) (bs : List ℕ) → length (run_of m t bs) ≡ length (run_of m u bs)
@@ -83,7 +83,7 @@ next_size : (m : Machine) (t : Tables) (bs : List ℕ) {e : Entry} → read_reco
     → length (run_of m t bs) ≡ answer_size + length (run_of m t (drop e.size bs))
 next_size m t bs {e} q =
     let t' = (step m t e.call).tables in
-    rw (run_next m t bs q, length-append, answer-length e.kind (numbers (step m t e.call).answer))
+    rw (run_next m t bs q, length-append, answer_length e.kind (numbers (step m t e.call).answer))
     (ap (λ (k : ℕ). answer_size + k) (same_size m t' t (drop e.size bs)))
 
 -- The answers to the records before byte `at` take so many bytes.
@@ -109,7 +109,7 @@ module _ {input : List ℕ} {size at : ℕ} (done : Counted input size at) where
       → size + answer_size ≡ length (run_of m t input)
   counted_last {r} l q m t =
       let some : 0 < length (drop at input) = rw length-drop (omega arith) in
-      omega (arith, done.rest m t, ap length (run-damaged m t (drop at input) some q), fault-length r)
+      omega (arith, done.rest m t, ap length (run_damaged m t (drop at input) some q), fault_length r)
 
   -- all are counted
   pub counted_all : length input ≤ at → (m : Machine) (t : Tables) → size ≡ length (run_of m t input)

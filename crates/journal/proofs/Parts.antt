@@ -18,7 +18,7 @@ use Rattle.rules.specs.Book.{step}
 use Rattle.rules.specs.Journal.{Entry, faulty, read_record, run_from}
 use Rattle.journal.specs.Parts.{answer_size, run_of, is_whole, is_ready, Ran, ran, answer_to, one_record, after, part_from}
 use Rattle.journal.proofs.Records.{whole_long, read_before, good_record}
-use Rattle.journal.proofs.Answers.{answer-length, fault-length, run-some, run_next, run-damaged}
+use Rattle.journal.proofs.Answers.{answer_length, fault_length, run_some, run_next, run_damaged}
 
 -- a good record, done
 abbrev pub done : Machine → Tables → Entry → Ran
@@ -101,7 +101,7 @@ stands ended m = by_parts ended m (Stands ended m) stays ends goes
       whole = λ b f.
           let here = ready_before ended bs b f w in
           let some : 0 < length (bs ++ b) = rw length-append (omega (arith, here.1)) in
-          run-damaged m t (bs ++ b) some (here.0 ∙ q) ∙ sym (append-nil (faulty r));
+          run_damaged m t (bs ++ b) some (here.0 ∙ q) ∙ sym (append-nil (faulty r));
     }
 
     goes : (room : ℕ) (t : Tables) (bs : List ℕ) (e : Entry) (p : Ran) → read_record bs ≡ accept e
@@ -109,7 +109,7 @@ stands ended m = by_parts ended m (Stands ended m) stays ends goes
     goes room t bs e p q ih =
         let g = good_record bs q in
         let line = answer_to m t e in
-        let size = answer-length e.kind (numbers (step m t e.call).answer) in
+        let size = answer_length e.kind (numbers (step m t e.call).answer) in
         let past = drop-drop p.read e.size bs in
         record {
           within = omega (arith, ih.within, g.within, length-drop e.size bs);
@@ -148,7 +148,7 @@ last_part m room t bs fits = sym (split ∙ rw (go p.more refl (drop p.read bs) 
     go true h [] e = refl
     go true h (b ∷ rest) e =
         let whole : length (run_of m t bs) ≡ length p.answers + length (run_of m p.tables (b ∷ rest)) = ap length split ∙ rw (h, e, length-append) in
-        let later = run-some m p.tables (b ∷ rest) (omega arith) in
+        let later = run_some m p.tables (b ∷ rest) (omega arith) in
         absurd
         (⊎_elim (λ (full : length p.answers ≡ answer_size * room). omega arith)
         (λ w. false≢true (sym w ∙ ap (is_ready true) e ∙ or-true (is_whole (b ∷ rest))))
@@ -170,7 +170,7 @@ one_size m t bs = go (read_record bs) refl
   where
     go : (d : Decision Entry) → read_record bs ≡ d → let p = decided (λ r. ran 0 (faulty r) false t) (λ e. done m t e) d in
         (p.read ≤ length bs) × (p.more ≡ true → 32 ≤ p.read) × (length p.answers ≡ answer_size)
-    go (refuse r) q = (omega arith, λ h. absurd (false≢true h), fault-length r)
+    go (refuse r) q = (omega arith, λ h. absurd (false≢true h), fault_length r)
     go (accept e) q =
         let g = good_record bs q in
-        (g.within, λ h. g.least, answer-length e.kind (numbers (step m t e.call).answer))
+        (g.within, λ h. g.least, answer_length e.kind (numbers (step m t e.call).answer))

@@ -21,7 +21,7 @@ use Rattle.journal.specs.Opening.{Opened}
 use Rattle.journal.specs.Parts.{answer_size, run_of, Passed, put_into, on_part}
 use Rattle.journal.proofs.IdentityMaps.{identity_long}
 use Rattle.journal.proofs.MachineRecord.{good_opening}
-use Rattle.journal.proofs.Answers.{fault-length}
+use Rattle.journal.proofs.Answers.{fault_length}
 use Rattle.journal.proofs.Parts.{last_part}
 use Rattle.journal.proofs.BookRun.{journal_refused}
 
@@ -81,7 +81,7 @@ module _ (input out : List ℕ) where
   -- a machine record that is refused has one answer
   module _ {r : ℕ} (v : opening input ≡ refuse r) where
     fault_size : length (journal input) ≡ answer_size
-    fault_size = ap length (journal_refused input v) ∙ fault-length r
+    fault_size = ap length (journal_refused input v) ∙ fault_length r
 
     pub no_answer : length out < answer_size → record { answer = refuse 11; output = out } ≡ write_journal input out
     no_answer l = too_short (omega (arith, fault_size))
