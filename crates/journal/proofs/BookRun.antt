@@ -143,7 +143,8 @@ part_by_book ended m {bs} (more {e = e} {es = es} q rs) (suc room) t =
     (sym (append_assoc (answer_to m t e) (book_lines m t' (take room es)) (cond (meets_damage ended room (drop e.size bs) es) (faulty 13) [])))))
 
 -- "at the end the whole page table, job table .. equal the book's": what a part does is the book's part, the tables that it leaves with it
-pub left_is_book : (ended : Bool) (room : ℕ) (m : Machine) (t : Tables) (bs : List ℕ) → part_from ended room m t bs ≡ book_part ended room m t bs (records_in bs)
+pub left_is_book : (ended : Bool) (room : ℕ) (m : Machine) (t : Tables) (bs : List ℕ) → part_from ended room m t bs ≡ book_part ended room m t bs
+    (records_in bs)
 left_is_book ended room m t bs = part_by_book ended m (records_are bs) room t
 
 -- so is every part that the contract of `run_part` allows

@@ -61,7 +61,8 @@ pub record Cut (bs : List ℕ) (n : ℕ) (all : List ℕ) : Type 0 where
   pub counts : take n all ≡ (machine_in bs).page_counts
   pub nodes : n ≡ node_count (machine_in bs)
 
-pub cut : (bs : List ℕ) {n : ℕ} (all : List ℕ) → counts_ok bs ≡ true → n ≡ byte_at bs 3 → length all ≡ 16 → take (byte_at bs 3) all ≡ (machine_in bs).page_counts
+pub cut : (bs : List ℕ) {n : ℕ} (all : List ℕ) → counts_ok bs ≡ true → n ≡ byte_at bs 3 → length all ≡ 16 → take (byte_at bs 3) all ≡
+    (machine_in bs).page_counts
     → Cut bs n all
 cut bs {n} all h e l t =
     let most : byte_at bs 3 ≤ 16 = nodes_most_lem bs h in

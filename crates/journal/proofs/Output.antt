@@ -146,7 +146,8 @@ module _ {m : Machine} {t₀ t : Tables} {input out₀ out : List ℕ} {ended : 
     has_room = rw (rest_lent out written) at lent_room
 
     -- It did this to the lent rest of the output.
-    module _ (a : Passed) (said : a ≡ put_into (take (length out - written) (drop written out)) (one_record m t (take (length input - at) (drop at input)))) where
+    module _ (a : Passed) (said : a ≡ put_into (take (length out - written) (drop written out))
+        (one_record m t (take (length input - at) (drop at input)))) where
       did : a ≡ put_into (drop written out) (one_record m t (drop at input))
       did = rw (rest_lent out written, rest_lent input at) at said
 

@@ -159,7 +159,8 @@ module _ (call : List ℕ) (h : length call ≡ call_words) where
   -- there are sixteen of them
   pub sixteen_long : length (sixteen call) ≡ places_per_job
   sixteen_long =
-      length-append (bytes_of 8 (word_at call 8)) (bytes_of 8 (word_at call 9)) ∙ omega (arith, bytes_length 8 (word_at call 8), bytes_length 8 (word_at call 9))
+      length-append (bytes_of 8 (word_at call 8)) (bytes_of 8 (word_at call 9)) ∙ omega
+      (arith, bytes_length 8 (word_at call 8), bytes_length 8 (word_at call 9))
 
   -- the list that the words say, before it is cut at its length: the places of words 8 and 9 first
   listed : List ℕ

@@ -1,0 +1,19 @@
+-- `machine_ok` tests the tables that are read out of the record.
+-- Assumes nothing.
+use native.Mathlib.Omega.{arith}
+use borrow.Author.Rules.{rules}
+use Rattle.journal.proofs.MachineRecord.{head_in, Cut, cut}
+use Rattle.journal.proofs.opening.machine_ok.Goals as goal
+
+pub byte_at-n-requires : goal.byte_at-n-requires
+byte_at-n-requires c = omega (arith, head_in c.args.bytes.now c.requires.1)
+
+pub slice_bounds-all-end : goal.slice_bounds-all-end
+slice_bounds-all-end c = let lent : Cut c.args.bytes.now c.byte_at-n.result c.page_counts-all.result = cut c.args.bytes.now c.page_counts-all.result
+    c.requires.0 c.byte_at-n.ensures.0 (search rules) c.page_counts-all.ensures in
+    lent.inside
+
+pub slice_bounds-counts-end : goal.slice_bounds-counts-end
+slice_bounds-counts-end c = let lent : Cut c.args.bytes.now c.byte_at-n.result c.page_counts-all.result = cut c.args.bytes.now
+    c.page_counts-all.result c.requires.0 c.byte_at-n.ensures.0 (search rules) c.page_counts-all.ensures in
+    lent.long
