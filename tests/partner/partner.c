@@ -239,7 +239,7 @@ static void full_disk(void)
     close(in.ours);
 }
 
-// The output is closed after the first answer. The system ends the program, unless its host has it ignore SIGPIPE.
+// The output is closed after the first answer. The write fails, whether or not the program's host has it ignore SIGPIPE: it does so itself.
 static void closed_output(void (*on_closed_output)(int))
 {
     struct ends in = input(), out = output();
@@ -248,12 +248,7 @@ static void closed_output(void (*on_closed_output)(int))
     answered(out.ours, answers);
     close(out.ours);
     give(in.ours, record(1), RECORD);
-    if (on_closed_output == SIG_IGN) {
-        need(WIFEXITED(ended(r, "placer: standard output: Broken pipe\n")), "end");
-    } else {
-        int status = ended(r, "");
-        need(WIFSIGNALED(status) && WTERMSIG(status) == SIGPIPE, "end");
-    }
+    need(WIFEXITED(ended(r, "placer: standard output: Broken pipe\n")), "end");
     close(in.ours);
 }
 

@@ -3,17 +3,19 @@
 
 #![tactic(auto)]
 
-ghost use Rattle.std.specs.Prelude.{◌≡◌, length};
+ghost use Rattle.std.specs.Prelude.{◌≡◌, ◌≤◌, length, IfOk};
 ghost use Rattle.rules.specs.Decisions.{accept};
 ghost use Rattle.rules.specs.Journal.{machine_size, opening};
-ghost use Rattle.placer.specs.Parts.{AtMost};
 
+use failure::Failure;
 use journal::opening::LONGEST;
 use journal::{answer, opening, reading};
 use part::Rest;
 use rules::Decision;
+use std::io::{Read, Write};
 use stdio::Got;
 
+mod failure;
 mod part;
 mod stdio;
 
@@ -25,30 +27,33 @@ fn opening_buffer() -> [u8; LONGEST]
 }
 
 // Reads the machine record: its six head bytes, and as many more as these say; fewer at the end of input.
-fn read_opening(bytes: &mut [u8]) -> Got
+fn read_opening<R: Read>(reader: &mut R, bytes: &mut [u8]) -> Result<usize, Failure>
     requires { 358 ≡ length bytes.old }
-    ensures { AtMost 358 result }
+    ensures { IfOk result (λ n. n ≤ 358) }
 {
-    let mut turns = u64::MAX;
     let mut done = 0;
     let mut size = 6;
-    while turns > 0 && done < size {
-        let got = stdio::read_some(&mut bytes[done..size]);
-        match got {
-            Got::Bytes(n) => done += n,
-            Got::End => return Got::Bytes(done),
-            Got::Failed => return Got::Failed,
+    for _ in 0..u64::MAX {
+        if done >= size {
+            break;
+        }
+        match stdio::read_some(reader, &mut bytes[done..size])? {
+            Got::Bytes(came) => done += came,
+            Got::End => break,
         }
         if done == 6 {
             size = opening::opening_size(bytes);
         }
-        turns -= 1;
     }
-    Got::Bytes(done)
+    Ok(done)
 }
 
 // The records after a good machine record, on free pages, their counts, fresh jobs and their maps, part by part until the run ends.
-fn answer_records(bytes: &[u8])
+fn answer_records<R: Read, W: Write>(
+    reader: &mut R,
+    writer: &mut W,
+    bytes: &[u8],
+) -> Result<(), Failure>
     requires { opening bytes.now ≡ accept (machine_size bytes.now) }
 {
     let mut pages = journal::free_pages();
@@ -56,12 +61,13 @@ fn answer_records(bytes: &[u8])
     let nodes = reading::byte_at(bytes, 3);
     let mut free = opening::page_counts(bytes);
     let mut maps = journal::identity_maps(nodes);
-    let mut input = io::large_buffer();
+    let mut input = part::input_buffer();
     let mut output = part::answer_buffer();
     let mut kept = 0;
-    let mut turns = u64::MAX;
-    while turns > 0 {
-        let Rest::Kept(n) = part::answer_part(
+    for _ in 0..u64::MAX {
+        let rest = part::answer_part(
+            reader,
+            writer,
             bytes,
             &mut pages,
             &mut jobs,
@@ -70,27 +76,30 @@ fn answer_records(bytes: &[u8])
             &mut input,
             &mut output,
             kept,
-        ) else {
-            return;
-        };
-        kept = n;
-        turns -= 1;
+        )?;
+        match rest {
+            Rest::Kept(n) => kept = n,
+            Rest::Ended => break,
+        }
+    }
+    Ok(())
+}
+
+// A whole journal, and its answers.
+fn answer_journal<R: Read, W: Write>(reader: &mut R, writer: &mut W) -> Result<(), Failure> {
+    let mut buffer = opening_buffer();
+    let n = read_opening(reader, &mut buffer)?;
+    let bytes = &buffer[..n];
+    match opening::verdict(bytes) {
+        Decision::Accept(_) => answer_records(reader, writer, bytes),
+        Decision::Refuse(refusal) => stdio::write_all(writer, &answer::fault(refusal)),
     }
 }
 
-// A read that fails ends the run, and is never answered as a damaged journal.
-fn main() {
-    let mut buffer = opening_buffer();
-    let Got::Bytes(n) = read_opening(&mut buffer) else {
-        return;
-    };
-    let bytes = &buffer[..n];
-    let found = opening::verdict(bytes);
-    match found {
-        Decision::Accept(_) => answer_records(bytes),
-        Decision::Refuse(refusal) => {
-            let fault = answer::fault(refusal);
-            stdio::write_all(&fault);
-        }
+// A read or a write that fails ends the run, is said on standard error, and is never answered as a damaged journal.
+fn main(rt: HostRuntime) {
+    if let Err(failure) = answer_journal(&mut rt.stdin(), &mut rt.stdout()) {
+        // Where standard error fails too, nobody is left to be told.
+        let _ = eprintln!(rt; "placer: {failure}");
     }
 }

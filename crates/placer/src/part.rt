@@ -7,11 +7,13 @@ ghost use Rattle.journal.specs.Opening.{Opened};
 ghost use Rattle.journal.specs.Parts.{on_part};
 ghost use Rattle.placer.specs.Parts.{Answered, Turn};
 
+use super::failure::Failure;
 use super::stdio;
 use super::stdio::Got;
 use journal::answer::ANSWER_SIZE;
 use journal::record::SHORTEST;
 use journal::run;
+use std::io::{Read, Write};
 
 // What a part leaves: so many bytes of a record that has not arrived in full, or the end of the run.
 #[derive(Clone, Copy)]
@@ -20,11 +22,21 @@ pub enum Rest {
     Ended,
 }
 
+// The most bytes that are there at once: those that were kept and those that a read brings.
+const MOST: usize = 65536;
+
+// Room for them, in zeros.
+pub fn input_buffer() -> [u8; MOST]
+    ensures { 65536 ≡ length result }
+{
+    [0; MOST]
+}
+
 // Room for an answer to each record that the input has room for, and one more, in zeros.
-pub fn answer_buffer() -> [u8; ANSWER_SIZE * (65536 / SHORTEST + 1)]
+pub fn answer_buffer() -> [u8; ANSWER_SIZE * (MOST / SHORTEST + 1)]
     ensures { 24588 ≡ length result }
 {
-    [0; ANSWER_SIZE * (65536 / SHORTEST + 1)]
+    [0; ANSWER_SIZE * (MOST / SHORTEST + 1)]
 }
 
 // Moves the n bytes from a place on to the front.
@@ -32,16 +44,13 @@ fn keep(bytes: &mut [u8], from: usize, n: usize)
     requires { from + n ≤ length bytes.old }
     ensures { bytes.new ≡ take n (drop from bytes.old) ++ drop n bytes.old }
 {
-    let mut i = 0;
-    while i < n {
-        bytes[i] = bytes[from + i];
-        i += 1;
-    }
+    bytes.copy_within(from..from + n, 0);
 }
 
 // Answers the records among the bytes that are there, and moves the others to the front. Where the input has ended, what is left is a
 // "short record .. answers .. refusal 13".
-fn answer_there(
+fn answer_there<W: Write>(
+    writer: &mut W,
     opening: &[u8],
     pages: &mut [u8],
     jobs: &mut [u64],
@@ -51,9 +60,9 @@ fn answer_there(
     output: &mut [u8],
     there: usize,
     ended: bool,
-) -> Rest
+) -> Result<Rest, Failure>
     requires { Opened opening.now (tables_of pages.old jobs.old free.old maps.old) × (there ≤ length input.old) × (65536 ≡ length input.old) × (24588 ≡ length output.old) }
-    ensures { Answered (on_part (machine_in opening.now) (tables_of pages.old jobs.old free.old maps.old) (take there input.old) ended output.old) (take there input.old) (tables_of pages.new jobs.new free.new maps.new) input.new output.new result }
+    ensures { Answered (on_part (machine_in opening.now) (tables_of pages.old jobs.old free.old maps.old) (take there input.old) ended output.old) (take there input.old) ended (tables_of pages.new jobs.new free.new maps.new) input.new output.new result }
 {
     let part = run::run_part(
         opening,
@@ -66,17 +75,19 @@ fn answer_there(
         output,
     );
     let used = part.read;
-    let written = part.written;
-    let sent = stdio::write_all(&output[..written]);
+    let sent = stdio::write_all(writer, &output[..part.written]);
     keep(input, used, there - used);
-    if (sent == written) & part.more & !ended {
-        return Rest::Kept(there - used);
+    sent?;
+    if part.more & !ended {
+        return Ok(Rest::Kept(there - used));
     }
-    Rest::Ended
+    Ok(Rest::Ended)
 }
 
 // Reads once, after the bytes that were kept, and answers what is there.
-pub fn answer_part(
+pub fn answer_part<R: Read, W: Write>(
+    reader: &mut R,
+    writer: &mut W,
     opening: &[u8],
     pages: &mut [u8],
     jobs: &mut [u64],
@@ -85,26 +96,19 @@ pub fn answer_part(
     input: &mut [u8],
     output: &mut [u8],
     kept: usize,
-) -> Rest
+) -> Result<Rest, Failure>
     requires { Opened opening.now (tables_of pages.old jobs.old free.old maps.old) × (kept ≤ length input.old) × (65536 ≡ length input.old) × (24588 ≡ length output.old) }
     ensures { Turn (machine_in opening.now) (tables_of pages.old jobs.old free.old maps.old) (take kept input.old) output.old (tables_of pages.new jobs.new free.new maps.new) input.new output.new result }
 {
-    let got = stdio::read_some(&mut input[kept..]);
-    match got {
+    match stdio::read_some(reader, &mut input[kept..])? {
         Got::Bytes(came) => {
+            let there = kept + came;
             answer_there(
-                opening,
-                pages,
-                jobs,
-                free,
-                maps,
-                input,
-                output,
-                kept + came,
-                false,
+                writer, opening, pages, jobs, free, maps, input, output, there, false,
             )
         }
-        Got::End => answer_there(opening, pages, jobs, free, maps, input, output, kept, true),
-        Got::Failed => Rest::Ended,
+        Got::End => answer_there(
+            writer, opening, pages, jobs, free, maps, input, output, kept, true,
+        ),
     }
 }

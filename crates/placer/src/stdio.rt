@@ -1,54 +1,56 @@
-// Standard input and output. A call that a signal interrupted is tried again; one that fails is said on standard error.
-// A proved loop has to end, and nothing says that signals do, or the input: such loops count down from a number that no run uses up.
+// Reads and writes of a stream. A call that a signal interrupted is tried again; one that fails ends the run.
+// A proved loop has to end, and nothing says that signals do, or the input: such loops count up to a number that no run uses up.
 
-ghost use Rattle.std.specs.Prelude.{◌≤◌, length};
+ghost use Rattle.std.specs.Prelude.{◌≤◌, length, IfOk};
 ghost use Rattle.placer.specs.Parts.{AtMost};
+ghost use Rattle.placer.specs.Streams.{Brought, Put, Sent};
 
-use libc::{EINTR, STDIN_FILENO, STDOUT_FILENO};
+use super::failure::Failure;
+use std::io::{Error, ErrorKind, Read, Write};
 
-// What a read brought: so many bytes, none where a signal came first; the end of input; or nothing, since it failed.
+// What a read brought: so many bytes, none where a signal came first; or the end of input.
 #[derive(Clone, Copy)]
 pub enum Got {
     Bytes(usize),
     End,
-    Failed,
-}
-
-// A signal came before the call moved a byte.
-fn interrupted(answer: isize) -> bool {
-    answer < 0 && os::errno() == EINTR
 }
 
 // One read, which waits for no more than the first bytes.
-pub fn read_some(bytes: &mut [u8]) -> Got
-    ensures { AtMost (length bytes.old) result }
+pub fn read_some<R: Read>(reader: &mut R, bytes: &mut [u8]) -> Result<Got, Failure>
+    ensures came { IfOk result (AtMost (length bytes.old)) }
+    ensures brought { Brought (R.remaining reader.old) (R.remaining reader.new) bytes.new result }
 {
-    let got = libc::read(STDIN_FILENO, bytes);
-    if got == 0 {
-        return Got::End;
+    match reader.read(bytes) {
+        Ok(0) => Ok(Got::End),
+        Ok(came) => Ok(Got::Bytes(came)),
+        Err(error) if error.kind() == ErrorKind::Interrupted => Ok(Got::Bytes(0)),
+        Err(error) => Err(Failure::Input(error)),
     }
-    if got < 0 && !interrupted(got) {
-        os::fail(b"placer: standard input");
-        return Got::Failed;
-    }
-    Got::Bytes(io::count(got, bytes))
 }
 
-// Writes the bytes, and answers how many it wrote: all of them, unless a write failed.
-pub fn write_all(bytes: &[u8]) -> usize
-    ensures { result ≤ length bytes.now }
+// One write, and how many bytes it took, none where a signal came first. A write that takes none without one has failed.
+fn write_some<W: Write>(writer: &mut W, bytes: &[u8]) -> Result<usize, Failure>
+    ensures most { IfOk result (λ n. n ≤ length bytes.now) }
+    ensures put { Put (W.contents writer.old) (W.contents writer.new) bytes.now result }
 {
-    let mut turns = u64::MAX;
-    let mut done = 0;
-    while turns > 0 && done < bytes.len() {
-        let rest = &bytes[done..];
-        let put = libc::write(STDOUT_FILENO, rest);
-        if put <= 0 && !interrupted(put) {
-            os::fail(b"placer: standard output");
-            return done;
-        }
-        done += io::count(put, rest);
-        turns -= 1;
+    match writer.write(bytes) {
+        Ok(0) => Err(Failure::Output(Error::from(ErrorKind::WriteZero))),
+        Ok(put) => Ok(put),
+        Err(error) if error.kind() == ErrorKind::Interrupted => Ok(0),
+        Err(error) => Err(Failure::Output(error)),
     }
-    done
+}
+
+// Writes the bytes, all of them unless a write fails.
+pub fn write_all<W: Write>(writer: &mut W, bytes: &[u8]) -> Result<(), Failure>
+    ensures { Sent (W.contents writer.old) (W.contents writer.new) bytes.now result }
+{
+    let mut done = 0;
+    for _ in 0..u64::MAX {
+        if done >= bytes.len() {
+            return writer.flush().map_err(Failure::Output);
+        }
+        done += write_some(writer, &bytes[done..])?;
+    }
+    Err(Failure::Output(Error::from(ErrorKind::TimedOut)))
 }
