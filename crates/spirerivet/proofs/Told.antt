@@ -26,7 +26,8 @@ unfolding told_of
 told_call {o} {a} {t} n e = ap (λ (x : List ℕ). told x t) n ∙ ap told_of e
 
 -- likewise a call that writes an output
-pub told_written_lem : {w : Written} {d : LawDecision ℕ} {out : List ℕ} {ns : List ℕ} → ns ≡ in_numbers d → wrote d out ≡ w → told_output ns out ≡ told_written w
+pub told_written_lem : {w : Written} {d : LawDecision ℕ} {out : List ℕ} {ns : List ℕ} → ns ≡ in_numbers d → wrote d out ≡ w → told_output ns out ≡
+    told_written w
 unfolding told_written
 told_written_lem {w} {d} {out} n e = ap (λ (x : List ℕ). told_output x out) n ∙ ap told_written e
 
@@ -37,7 +38,8 @@ unfolding told_listing
 told_listing_lem {l} {d} {out} n e = ap (λ (x : List ℕ). told_output x out) n ∙ ap told_listing e
 
 -- and a list of calls
-pub told_run_lem : {r : Run} {d : LawDecision ℕ} {t : Tables} {out : List ℕ} {ns : List ℕ} → ns ≡ in_numbers d → run d t out ≡ r → told_run ns t out ≡ told_replay r
+pub told_run_lem : {r : Run} {d : LawDecision ℕ} {t : Tables} {out : List ℕ} {ns : List ℕ} → ns ≡ in_numbers d → run d t out ≡ r → told_run ns t out
+    ≡ told_replay r
 unfolding told_replay
 told_run_lem {r} {d} {t} {out} n e = ap (λ (x : List ℕ). told_run x t out) n ∙ ap told_replay e
 

@@ -1,0 +1,8 @@
+-- `spire_clear` tells what `clear` did.
+-- Assumes nothing.
+use Rattle.spirerivet.proofs.Told.{told_call}
+use borrow.Author.Rules.{rules}
+use Rattle.spirerivet.proofs.spire_clear.Goals as goal
+
+pub returns : goal.returns
+returns c = λ t. told_call c.numbers.ensures (c.clear.ensures t)

@@ -1,0 +1,8 @@
+-- `spire_fresh` tells what `fresh` did.
+-- Assumes nothing.
+use Rattle.spirerivet.proofs.Told.{told_call}
+use borrow.Author.Rules.{rules}
+use Rattle.spirerivet.proofs.spire_fresh.Goals as goal
+
+pub returns : goal.returns
+returns c = λ t. told_call c.numbers.ensures (c.fresh.ensures t)

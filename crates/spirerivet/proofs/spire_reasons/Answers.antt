@@ -1,0 +1,8 @@
+-- `spire_reasons` tells what `write_reasons` did.
+-- Assumes nothing.
+use Rattle.spirerivet.proofs.Told.{told_written_lem}
+use borrow.Author.Rules.{rules}
+use Rattle.spirerivet.proofs.spire_reasons.Goals as goal
+
+pub returns : goal.returns
+returns c = told_written_lem c.number.ensures c.write_reasons.ensures
