@@ -2,78 +2,18 @@
 // each node one before which all its pages are. A list of calls keeps them from call to call, so that a search for a free page goes over no
 // held page twice.
 
-ghost use Rattle.std.specs.Prelude.{true, ◌≡◌, ◌-◌, ◌*◌, ◌%◌, ◌<◌, ◌≤◌, length};
-ghost use Rattle.rules.specs.Masks.{most_nodes};
+ghost use Rattle.std.specs.Prelude.{true, ◌≡◌, length};
 ghost use Rattle.rules.specs.Answers.{answer_of};
 ghost use Rattle.rules.specs.Drain.{drain_tables_ok, drain_decision};
 ghost use Rattle.rules.specs.Calls.{Tables, tables_of, with_pages, outcome, applied, request_tables_ok, release_tables_ok, fresh_tables_ok, on_request, on_release, on_fresh};
 ghost use Rattle.machine.specs.Tables.{machine_of, Starts};
-ghost use Rattle.placement.specs.Hints.{Hints, lowered, hinted, Named};
-ghost use Rattle.placement.specs.declared.placed.Placed.TheVariants.{Granted};
+ghost use Rattle.placement.specs.Hints.{Hints};
 
 use drain;
 use placement;
-use placement::hinting::{ALL_PAGES, HINTS};
-use placement::placed::Placed;
+use placement::hinting::HINTS;
 use placement::{hinting, placed};
-use rules::{Answer, Decision, MOST_NODES, Page, SysNode};
-
-// The colour of a page, by its node's first page.
-fn colour_of(first: Page, page: Page) -> usize
-    requires { first.0 ≤ page.0 }
-    ensures { result ≡ (page.0 - first.0) % 4 }
-{
-    ((page.0 - first.0) % 4) as usize
-}
-
-// The hints after a grant: the page was the lowest free one of the job's colour; or the lowest free one, and none of that colour is free.
-fn keep_granted(
-    starts: &[u32; MOST_NODES + 1],
-    hints: &mut [u32; HINTS],
-    job: usize,
-    node: SysNode,
-    page: Page,
-)
-    requires { Named starts.now (Granted node page) }
-    ensures { hints.new ≡ hinted starts.now job hints.old (Granted node page) }
-{
-    let n = node.0 as usize;
-    let own = hinting::hint_at(node, job % 4);
-    if colour_of(Page(starts[n]), page) == job % 4 {
-        hints[own] = page.0 + 1;
-    } else {
-        hints[hinting::hint_at(node, ALL_PAGES)] = page.0 + 1;
-        hints[own] = starts[n + 1];
-    }
-}
-
-// A hint goes down to a page that is released before it.
-fn lower_hint(hints: &mut [u32; HINTS], at: usize, page: Page)
-    requires { at < 5 * most_nodes }
-    ensures { hints.new ≡ lowered hints.old at page.0 }
-{
-    if page.0 < hints[at] {
-        hints[at] = page.0;
-    }
-}
-
-// The hints after a page is placed for a job.
-fn keep(starts: &[u32; MOST_NODES + 1], hints: &mut [u32; HINTS], job: usize, placed: Placed)
-    requires { Named starts.now placed }
-    ensures { hints.new ≡ hinted starts.now job hints.old placed }
-{
-    match placed {
-        Placed::Granted(node, page) => {
-            keep_granted(starts, hints, job, node, page);
-        }
-        Placed::Released(node, page) => {
-            let colour = colour_of(Page(starts[node.0 as usize]), page);
-            lower_hint(hints, hinting::hint_at(node, ALL_PAGES), page);
-            lower_hint(hints, hinting::hint_at(node, colour), page);
-        }
-        Placed::Refused(_) => {}
-    }
-}
+use rules::{Answer, Decision, MOST_NODES};
 
 // A request on tables that are in order.
 pub fn request(
@@ -106,7 +46,7 @@ pub fn request(
         job,
         cpu,
     );
-    keep(starts, hints, job, placed);
+    hinting::keep(starts, hints, job, placed);
     placed::tell(maps, job, placed)
 }
 
@@ -127,7 +67,7 @@ pub fn release(
     ensures kept { Hints counts.now pages.new hints.new }
 {
     let placed = placement::release_at(counts, starts, pages, jobs, free, maps, job, page);
-    keep(starts, hints, job, placed);
+    hinting::keep(starts, hints, job, placed);
     placed::tell(maps, job, placed)
 }
 
@@ -147,8 +87,7 @@ pub fn fresh(
     placement::fresh_at(counts, starts, pages, free)
 }
 
-// A drain on tables that are in order. The pairs are not handed out; `room` is what the call says it has for them. The hints begin anew after
-// it, as pages have come and gone.
+// A drain on tables that are in order. The pairs are not handed out; `room` is what the call says it has for them.
 pub fn drain_node(
     counts: &[u32],
     starts: &[u32; MOST_NODES + 1],
@@ -169,6 +108,7 @@ pub fn drain_node(
     let done = drain::drain_at(
         counts,
         starts,
+        hints,
         distances,
         pages,
         jobs,
@@ -179,10 +119,7 @@ pub fn drain_node(
         &mut none[..0],
     );
     match done {
-        Decision::Accept(moves) => {
-            *hints = [0; HINTS];
-            Answer::Drained(moves as u32)
-        }
+        Decision::Accept(moves) => Answer::Drained(moves as u32),
         Decision::Refuse(why) => Answer::Refused(why),
     }
 }

@@ -1,5 +1,4 @@
 pub mod Open
-pub mod Last
 pub mod Holders
 pub mod Targets
 pub mod Reached
@@ -7,8 +6,6 @@ pub mod Pairs
 pub mod Passes
 pub mod Matching
 pub mod Within
-pub mod Spots
-pub mod Taken
 pub mod Carried
 pub mod Moved
 pub mod Going

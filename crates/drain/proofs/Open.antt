@@ -1,13 +1,13 @@
 -- Laws of the goals of pages: the first open node of the order, and what is kept of the jobs that have been met.
 -- Assumes nothing.
 use Prim.Native.Nat.{ℕ, zero, suc, ◌+◌, ◌-◌, ◌≤◌, ◌<◌}
-use mathlib.Core.Path.{◌≡◌, refl, sym, ◌∙◌}
+use mathlib.Core.Path.{◌≡◌, refl, sym, ap, ◌∙◌}
 use mathlib.Core.Bool.{Bool, true, false, ◌&&◌, cond}
 use mathlib.Core.List.{List, [], ◌∷◌}
 use mathlib.Core.Option.{none, some}
 use native.Mathlib.Decide.{ℕ_discrete}
 use native.Mathlib.Omega.{arith}
-use borrow.Author.Tests.{le-ltb, ltb-true, ltb-false}
+use borrow.Author.Tests.{lt-ltb, le-ltb, ltb-true, ltb-false}
 use lib.Dec.{ltb}
 use lib.ListN.{length, get_or, set, length-set, replicate, length-replicate}
 use lib.Seq.{get_or-set_same, get_or-set_other}
@@ -95,12 +95,6 @@ fails_next p a i f e k l h = go (ℕ_discrete k i)
 
 -- ---- what is kept
 
--- a table of zeros
-pub zero_at : (k i : ℕ) → ◌≡◌ {A = ℕ} (get_or (replicate k 0) i 0) 0
-zero_at zero i = refl
-zero_at (suc k) zero = refl
-zero_at (suc k) (suc i) = zero_at k i
-
 -- at first nothing is
 pub none_met : (n : ℕ) (order jobs maps free : List ℕ) → Met n order jobs maps free (replicate 256 0) (replicate 256 0)
 none_met n order jobs maps free = record {
@@ -108,6 +102,11 @@ none_met n order jobs maps free = record {
   met_long = length-replicate {A = ℕ} 256 0;
   kept = λ b l h. absurd (omega (arith, h, zero_at 256 b));
 }
+  where
+    zero_at : (k i : ℕ) → ◌≡◌ {A = ℕ} (get_or (replicate k 0) i 0) 0
+    zero_at zero i = refl
+    zero_at (suc k) zero = refl
+    zero_at (suc k) (suc i) = zero_at k i
 
 -- an answer that is there, by a test
 pub some_if : (b : Bool) {x y : ℕ} → some x ≡ cond b (some y) none → (b ≡ true) × (x ≡ y)
@@ -196,20 +195,6 @@ module _ (n : ℕ) (order jobs maps free limits met : List ℕ) (m : Met n order
   )
 
 -- a move makes no node of the order open
-pub still_closed : {n x : ℕ} {order free : List ℕ} (k : ℕ) → Ordered n x order free → (i : ℕ) → i < length order
-    → get_or free (get_or order i 0) 0 ≡ 0 → get_or (after_move x free k) (get_or order i 0) 0 ≡ 0
-still_closed {n} {x} {order} {free} k o i l e = go (ℕ_discrete (get_or order i 0) k)
-  where
-    go : Dec (get_or order i 0 ≡ k) → get_or (after_move x free k) (get_or order i 0) 0 ≡ 0
-    go (yes q) =
-        let small : k < length (set free x (get_or free x 0 + 1)) =
-        omega (arith, q, o.nodes i l, o.one_each, length-set free x (get_or free x 0 + 1)) in
-        rw q (get_or-set_same (set free x (get_or free x 0 + 1)) k (get_or free k 0 - 1) 0 small ∙ (let z : get_or free k 0 ≡ 0 = rw q at e in omega arith))
-    go (no q) =
-        get_or-set_other (set free x (get_or free x 0 + 1)) k (get_or order i 0) (get_or free k 0 - 1) 0 q
-        ∙ get_or-set_other free x (get_or order i 0) (get_or free x 0 + 1) 0 (o.others i l) ∙ e
-
--- so what is kept of the jobs stays
 pub met_moved : (n x : ℕ) (order jobs maps free limits met : List ℕ) (k : ℕ) → Ordered n x order free
     → Met n order jobs maps free limits met → Met n order jobs maps (after_move x free k) limits met
 unfolding ClosedTo
@@ -217,13 +202,20 @@ met_moved n x order jobs maps free limits met k o m = record {
   limits_long = m.limits_long;
   met_long = m.met_long;
   kept = λ b l h. let w = m.kept b l h in
-      record {
-        movable = w.movable;
-        limit = w.limit;
-        within = w.within;
-        closed = λ i u g. still_closed k o i (omega (arith, u, w.within)) (w.closed i u g);
-      };
+      record { movable = w.movable; limit = w.limit; within = w.within; closed = λ i u g. still i (omega (arith, u, w.within)) (w.closed i u g) };
 }
+  where
+    still : (i : ℕ) → i < length order → get_or free (get_or order i 0) 0 ≡ 0 → get_or (after_move x free k) (get_or order i 0) 0 ≡ 0
+    still i l e = go (ℕ_discrete (get_or order i 0) k)
+      where
+        go : Dec (get_or order i 0 ≡ k) → get_or (after_move x free k) (get_or order i 0) 0 ≡ 0
+        go (yes q) =
+            let small : k < length (set free x (get_or free x 0 + 1)) =
+            omega (arith, q, o.nodes i l, o.one_each, length-set free x (get_or free x 0 + 1)) in
+            rw q (get_or-set_same (set free x (get_or free x 0 + 1)) k (get_or free k 0 - 1) 0 small ∙ (let z : get_or free k 0 ≡ 0 = rw q at e in omega arith))
+        go (no q) =
+            get_or-set_other (set free x (get_or free x 0 + 1)) k (get_or order i 0) (get_or free k 0 - 1) 0 q
+            ∙ get_or-set_other free x (get_or order i 0) (get_or free x 0 + 1) 0 (o.others i l) ∙ e
 
 -- ---- the node that a page goes to
 

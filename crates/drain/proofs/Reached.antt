@@ -2,24 +2,24 @@
 -- Assumes nothing.
 use Prim.Native.Nat.{ℕ, suc, ◌+◌, ◌-◌, ◌≤◌, ◌<◌}
 use mathlib.Core.Path.{◌≡◌, refl, sym, ap, ap₂, ◌∙◌}
+use mathlib.Core.Logic.{◌≢◌}
 use mathlib.Core.Bool.{Bool, true, false, not, cond}
 use mathlib.Core.List.{List, [], ◌∷◌, ◌++◌, append_assoc, append-nil}
 use mathlib.Core.Option.{Option, none, some}
 use native.Mathlib.Nat.{add-zero}
 use native.Mathlib.Omega.{arith}
-use borrow.Author.Tests.{eq-eqb, ne_eqb}
+use borrow.Author.Tests.{eq-eqb, ne_eqb, ltb-true}
 use lib.Dec.{eqb}
-use lib.ListN.{length, get_or}
+use lib.ListN.{length, get_or, set}
 use Rattle.rules.specs.Basics.{keep, each, from, sum}
 use Rattle.rules.specs.Machine.{first_page, pages_of}
 use Rattle.rules.specs.Masks.{most_nodes}
-use Rattle.rules.specs.SearchOrder.{free_pages, free_counts}
+use Rattle.rules.specs.SearchOrder.{free_pages, has_room, free_counts, counted}
 use Rattle.rules.specs.Decisions.{Decision, refuse, accept, unless, then}
-use Rattle.rules.specs.Calls.{Tables, after_writes, after_stores, after_remaps, applied}
+use Rattle.rules.specs.Calls.{Tables, Write, after_writes, after_stores, after_remaps, applied}
 use Rattle.rules.specs.Drain.{Move, held_pages, is_movable, goal, move_to, move_of, move_writes, move_recounts, moved, moves, recounts_of, draining}
 use Rattle.rules.proofs.Decisions.{not_accepted}
-use Rattle.rules.proofs.Book.{writes_append}
-use Rattle.rules.proofs.FreeCounts.{count_is, count_most}
+use Rattle.rules.proofs.FreeCounts.{count_is, counted_room}
 use Rattle.rules.proofs.Lists.{keep_agree, entry_same, length_from, sum_take_le, sum_take_suc}
 use Rattle.rules.proofs.Moves.{MoveIs, move_is, HeldPage, moved_length, others_kept, moved_matches, moves_cons, moves_nil}
 use Rattle.rules.proofs.Pages.{PageOf, member_page, page_lt}
@@ -34,6 +34,12 @@ each_snoc : {A B : Type 0} (f : A → List B) (xs : List A) (x : A) → each f (
 unfolding each
 each_snoc f [] x = append-nil (f x)
 each_snoc {B = B} f (y ∷ ys) x = ap (λ (l : List B). f y ++ l) (each_snoc f ys x) ∙ sym (append_assoc (f y) (each f ys) (f x))
+
+-- some writes after others
+writes_append : (table : List ℕ) (vs ws : List Write) → after_writes table (vs ++ ws) ≡ after_writes (after_writes table vs) ws
+unfolding after_writes
+writes_append table [] ws = refl
+writes_append table (v ∷ vs) ws = writes_append (set table v.at v.value) vs ws
 
 -- the counts after one move more
 recounts_snoc : (x : ℕ) (free : List ℕ) (vs : List Move) (v : Move)
@@ -224,6 +230,15 @@ module _ {counts distances : List ℕ} {x : ℕ} {start : Tables} {i : ℕ} {now
             ∙ r.bytes p (omega arith) e;
       }
 
+      -- what one move may count on
+      pub step_carries : (has_room counts now.ledger k ≡ true) × (k < length counts) × (k ≢ x) × (0 < get_or now.free k 0)
+      unfolding counted
+      step_carries =
+          let m = is_move in
+          let has : has_room counts now.ledger k ≡ true = m.first_room.passes in
+          let above : counted now.free k ≡ true = ap (λ (f : List ℕ). counted f k) r.matches ∙ counted_room counts now.ledger k ∙ has in
+          (has, m.target.node, m.target.other, ltb-true 0 (get_or now.free k 0) above)
+
     -- a page that has nowhere to go is 17
     refused_here : goal_here ≡ none → move_of counts distances now x (first_page counts x + i) ≡ refuse 17
     unfolding move_of
@@ -275,6 +290,13 @@ kept_and_not {A} p (x ∷ xs) = go (p x) (kept_and_not p xs)
     go false e = omega arith
 
 module _ (counts ledger : List ℕ) (x : ℕ) where
+  -- a node has no more free pages than pages
+  free_most : get_or (free_counts counts ledger) x 0 ≤ get_or counts x 0
+  unfolding free_pages pages_of
+  free_most =
+      let both = kept_and_not (λ p. eqb (get_or ledger p 1) 0) (from (first_page counts x) (get_or counts x 0)) in
+      omega (arith, count_is counts ledger x, both, length_from (first_page counts x) (get_or counts x 0))
+
   -- the pages of a node are its free and its held ones
   held_count : sum counts ≤ length ledger → length (held_pages counts ledger x) ≡ get_or counts x 0 - get_or (free_counts counts ledger) x 0
   unfolding free_pages held_pages pages_of
@@ -289,10 +311,9 @@ module _ (counts ledger : List ℕ) (x : ℕ) where
 pub free_few : {counts distances : List ℕ} {x i : ℕ} {start now : Tables} {vs : List Move} → Reached counts distances x start i now vs
     → sum counts ≤ 1048576 → get_or now.free x 0 ≤ 1048576
 free_few {counts} {x = x} {now = now} r few =
-    let most = count_most counts now.ledger x in
-    let is = count_is counts now.ledger x in
+    let most = free_most counts now.ledger x in
     let same : get_or now.free x 0 ≡ get_or (free_counts counts now.ledger) x 0 = ap (λ (f : List ℕ). get_or f x 0) r.matches in
-    omega (arith, most, is, same, sum_take_suc x counts, sum_take_le (suc x) counts)
+    omega (arith, most, same, sum_take_suc x counts, sum_take_le (suc x) counts)
 
 -- a move for each page
 moves_length : (counts distances : List ℕ) (x : ℕ) (t : Tables) (ps : List ℕ) {vs : List Move} → moves counts distances x t ps ≡ accept vs

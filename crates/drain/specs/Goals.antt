@@ -6,6 +6,8 @@ use Rattle.rules.specs.Masks.{has, all_nodes}
 use Rattle.rules.specs.SearchOrder.{near, counted}
 use Rattle.rules.specs.Calls.{tables_of, limit_of}
 use Rattle.rules.specs.Drain.{is_movable}
+use Rattle.drain.specs.declared.goals.Goal.{Goal}
+use Rattle.drain.specs.declared.goals.Goal.TheVariants.{At, Nowhere}
 use Rattle.drain.specs.declared.goals.Holder.{Holder}
 use Rattle.drain.specs.declared.goals.Holder.TheVariants.{Of, Nobody}
 
@@ -29,11 +31,11 @@ opens free limit k = has limit k && counted free k
 unfoldable pub goal_by : ℕ → List ℕ → List ℕ → List ℕ → List ℕ → ℕ → Option ℕ
 goal_by n order jobs maps free j = cond (may_move n jobs maps j) (first (keep (opens free (limit_in jobs maps j)) order)) none
 
--- the number of a goal: one more than the node, or 0
-abbrev pub number_goal : ℕ → Option ℕ
-number_goal r = cond (eqb r 0) none (some (r - 1))
+-- what the code's enums stand for
+abbrev pub goal_of : Goal → Option ℕ
+goal_of (At k) = some k.0
+goal_of Nowhere = none
 
--- what the code's enum stands for
 abbrev pub holder_of : Holder → Option ℕ
 holder_of (Of limit) = some limit.0
 holder_of Nobody = none
@@ -55,19 +57,6 @@ pub record Met (n : ℕ) (order jobs maps free limits met : List ℕ) : Type 0 w
   pub limits_long : length limits ≡ 256
   pub met_long : length met ≡ 256
   pub kept : (b : ℕ) → b < 256 → 0 < get_or met b 0 → Kept n order jobs maps free limits met b
-
--- Where the last page that had byte b went, by its number, if one did: to a node of the order, and the next one goes there too as long as the node
--- is counted above 0.
-pub record Last (n : ℕ) (order jobs maps free last : List ℕ) : Type 0 where
-  pub last_long : length last ≡ 256
-  pub listed : (b : ℕ) → b < 256 → 0 < get_or last b 0 → (i : ℕ) × (i < length order) × (get_or order i 0 ≡ get_or last b 0 - 1)
-  pub again : (b : ℕ) → b < 256 → 0 < get_or last b 0 → 0 < get_or free (get_or last b 0 - 1) 0
-      → goal_by n order jobs maps free (b - 1) ≡ some (get_or last b 0 - 1)
-
--- both
-pub record Known (n : ℕ) (order jobs maps free limits met last : List ℕ) : Type 0 where
-  pub are_met : Met n order jobs maps free limits met
-  pub went : Last n order jobs maps free last
 
 -- What may be counted on: the nodes of the order are nodes other than x, there is a count for each node, and job table and maps are in order.
 pub record Ordered (n x : ℕ) (order free : List ℕ) : Type 0 where

@@ -1,5 +1,4 @@
 pub mod Goals
 pub mod Reached
-pub mod Spots
 pub mod Moving
 pub mod Outcomes

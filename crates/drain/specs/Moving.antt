@@ -3,12 +3,12 @@ use Rattle.std.specs.Prelude.{ℕ, ◌+◌, ◌-◌, ◌≤◌, ◌<◌, ◌≡�
 use Rattle.std.proofs.Math.Option.{some}
 use Rattle.rules.specs.Machine.{first_page}
 use Rattle.rules.specs.SearchOrder.{has_room}
-use Rattle.placement.specs.Grants.{Paged}
+use Rattle.placement.specs.Grants.{Ready}
 use Rattle.drain.specs.Goals.{goal_by}
 
 -- Page p of node x, which has this byte, may go to node k.
 pub record Carries (counts starts pages free : List ℕ) (x p k byte : ℕ) : Type 0 where
-  pub paged : Paged counts starts pages
+  pub ready : Ready counts starts pages (byte - 1)
   pub held : 0 < byte
   pub start : first_page counts x ≤ p
   pub end : p < first_page counts x + get_or counts x 0

@@ -5,7 +5,7 @@ ghost use Rattle.std.proofs.Math.Option.{none, some};
 ghost use Rattle.rules.specs.Calls.{mapped_tables_ok};
 ghost use Rattle.rules.specs.Calls.{tables_of};
 ghost use Rattle.rules.specs.Drain.{held_pages, moves};
-ghost use Rattle.drain.specs.Goals.{near_others, may_move, limit_in, opens, goal_by, number_goal, holder_of, Met, Known, Ordered, after_move, passes};
+ghost use Rattle.drain.specs.Goals.{near_others, may_move, limit_in, opens, goal_by, goal_of, holder_of, Met, Ordered, after_move, passes};
 ghost use Rattle.drain.specs.Reached.{Drainable, Goes};
 
 use maps::judging::Judged;
@@ -15,6 +15,13 @@ use placement;
 use placement::{Admission, search};
 use records::table;
 use rules::{MOST_NODES, SysNode};
+
+// Where a page goes.
+#[derive(Clone, Copy)]
+pub enum Goal {
+    At(SysNode),
+    Nowhere,
+}
 
 // The nodes that the job of a byte may get; or the byte names no job, or the job's record or map is malformed.
 #[derive(Clone, Copy)]
@@ -93,40 +100,7 @@ fn next_open(order: &[u8], free: &[u32], limit: Mask, from: usize) -> usize
     i
 }
 
-// Where a page that has this byte goes, one more than the node, or 0: its job is judged if it has not been met, and the order looked through from
-// its position on.
-fn find_goal(
-    nodes: usize,
-    order: &[u8],
-    jobs: &[u64],
-    maps: &[u8],
-    free: &[u32],
-    limits: &mut [u64; BYTES],
-    met: &mut [u8; BYTES],
-    last: &mut [u8; BYTES],
-    byte: u8,
-) -> u8
-    requires { (mapped_tables_ok nodes (length jobs.now) (length maps.now) ≡ true) × (0 < byte) × ((x : ℕ) × Ordered nodes x order.now free.now) × Known nodes order.now jobs.now maps.now free.now limits.old met.old last.old }
-    ensures goes { number_goal result ≡ goal_by nodes order.now jobs.now maps.now free.now (byte - 1) }
-    ensures kept { Known nodes order.now jobs.now maps.now free.now limits.new met.new last.new }
-{
-    if !meet(nodes, jobs, maps, limits, met, byte) {
-        return 0;
-    }
-    let b = byte as usize;
-    let from = (met[b] - 1) as usize;
-    let at = next_open(order, free, Mask::of(limits[b]), from);
-    if at == order.len() {
-        return 0;
-    }
-    let goal = order[at] + 1;
-    met[b] = at as u8 + 1;
-    last[b] = goal;
-    goal
-}
-
-// The same, with a look first at where the last page that had this byte went: most pages go there too. `find_goal` is called in two places, so that
-// it stays a function of its own and this look becomes part of the loops.
+// Where a page that has this byte goes.
 pub fn goal_of(
     nodes: usize,
     order: &[u8],
@@ -135,21 +109,23 @@ pub fn goal_of(
     free: &[u32],
     limits: &mut [u64; BYTES],
     met: &mut [u8; BYTES],
-    last: &mut [u8; BYTES],
     byte: u8,
-) -> u8
-    requires { (mapped_tables_ok nodes (length jobs.now) (length maps.now) ≡ true) × (0 < byte) × ((x : ℕ) × Ordered nodes x order.now free.now) × Known nodes order.now jobs.now maps.now free.now limits.old met.old last.old }
-    ensures goes { number_goal result ≡ goal_by nodes order.now jobs.now maps.now free.now (byte - 1) }
-    ensures kept { Known nodes order.now jobs.now maps.now free.now limits.new met.new last.new }
+) -> Goal
+    requires { (mapped_tables_ok nodes (length jobs.now) (length maps.now) ≡ true) × (0 < byte) × (length order.now ≤ 64) × Met nodes order.now jobs.now maps.now free.now limits.old met.old }
+    ensures goes { goal_of result ≡ goal_by nodes order.now jobs.now maps.now free.now (byte - 1) }
+    ensures kept { Met nodes order.now jobs.now maps.now free.now limits.new met.new }
 {
-    let before = last[byte as usize];
-    if before == 0 {
-        return find_goal(nodes, order, jobs, maps, free, limits, met, last, byte);
+    if !meet(nodes, jobs, maps, limits, met, byte) {
+        return Goal::Nowhere;
     }
-    if free[(before - 1) as usize] == 0 {
-        return find_goal(nodes, order, jobs, maps, free, limits, met, last, byte);
+    let b = byte as usize;
+    let from = (met[b] - 1) as usize;
+    let at = next_open(order, free, Mask::of(limits[b]), from);
+    if at == order.len() {
+        return Goal::Nowhere;
     }
-    before
+    met[b] = at as u8 + 1;
+    Goal::At(SysNode(order[at]))
 }
 
 // The counts after a move from x to another node.
@@ -174,25 +150,26 @@ fn pass(
     free: &mut [u32],
     limits: &mut [u64; BYTES],
     met: &mut [u8; BYTES],
-    last: &mut [u8; BYTES],
     x: SysNode,
     byte: u8,
 ) -> bool
-    requires { (mapped_tables_ok nodes (length jobs.now) (length maps.now) ≡ true) × Ordered nodes x.0 order.now free.old × Known nodes order.now jobs.now maps.now free.old limits.old met.old last.old × (get_or free.old x.0 0 < 4294967295) }
+    requires { (mapped_tables_ok nodes (length jobs.now) (length maps.now) ≡ true) × Ordered nodes x.0 order.now free.old × Met nodes order.now jobs.now maps.now free.old limits.old met.old × (get_or free.old x.0 0 < 4294967295) }
     ensures stays { byte ≡ 0 → (result ≡ true) × (free.new ≡ free.old) }
     ensures stuck { 0 < byte → goal_by nodes order.now jobs.now maps.now free.old (byte - 1) ≡ none → result ≡ false }
     ensures goes { 0 < byte → (k : ℕ) → goal_by nodes order.now jobs.now maps.now free.old (byte - 1) ≡ some k → (result ≡ true) × (free.new ≡ after_move x.0 free.old k) }
-    ensures kept { Known nodes order.now jobs.now maps.now free.new limits.new met.new last.new }
+    ensures kept { Met nodes order.now jobs.now maps.now free.new limits.new met.new }
 {
     if byte == 0 {
         return true;
     }
-    let goal = goal_of(nodes, order, jobs, maps, free, limits, met, last, byte);
-    if goal == 0 {
-        return false;
+    let goal = goal_of(nodes, order, jobs, maps, free, limits, met, byte);
+    match goal {
+        Goal::At(node) => {
+            count_move(free, x, node);
+            true
+        }
+        Goal::Nowhere => false,
     }
-    count_move(free, x, SysNode(goal - 1));
-    true
 }
 
 // Have all pages of node x that have these bytes somewhere to go? Each move is counted.
@@ -210,7 +187,6 @@ fn all_pass(
 {
     let mut limits = [0u64; BYTES];
     let mut met = [0u8; BYTES];
-    let mut last = [0u8; BYTES];
     let mut i = 0;
     while i < part.len() {
         if !pass(
@@ -221,7 +197,6 @@ fn all_pass(
             free,
             &mut limits,
             &mut met,
-            &mut last,
             x,
             part[i],
         ) {

@@ -4,29 +4,32 @@
 
 ghost use Rattle.std.specs.Prelude.{true, ◌≡◌, ◌<◌, length, List, ℕ};
 ghost use Rattle.rules.specs.Answers.{decision_of};
+ghost use Rattle.rules.specs.SearchOrder.{free_counts};
 ghost use Rattle.rules.specs.Calls.{tables_of, mapped_tables_ok};
 ghost use Rattle.drain.specs.Goals.{near_others};
 ghost use Rattle.drain.specs.Reached.{Drainable};
 ghost use Rattle.rules.specs.Drain.{drain_tables_ok, moves_within, drain_moves, did_drain, on_drain};
 ghost use Rattle.machine.specs.Tables.{Starts};
+ghost use Rattle.placement.specs.Hints.{Hints};
 ghost use Rattle.drain.specs.Outcomes.{count_of, tables_after, pairs_after};
 
 use machine;
 use machine::listing;
 use nodemask::Mask;
 use placement;
+use placement::hinting::HINTS;
 use rules::{Decision, MOST_NODES, Refusal, SysNode};
 
 mod counting;
 pub mod goals;
 pub mod moving;
-mod picking;
 
 // A drain of node x on tables that are in order, with counts that match: refusals 17 and 11. `order` has the other nodes, nearest first. The
 // pairs are put as far as there is room in `out`; `room` is what the caller has said.
 fn drain_by(
     counts: &[u32],
     starts: &[u32; MOST_NODES + 1],
+    hints: &mut [u32; HINTS],
     order: &[u8],
     pages: &mut [u8],
     jobs: &[u64],
@@ -36,11 +39,12 @@ fn drain_by(
     room: usize,
     out: &mut [u32],
 ) -> Decision
-    requires maps_value { (mapped_tables_ok (length counts.now) (length jobs.now) (length maps.now) ≡ true) × Drainable counts.now starts.now x.0 order.now pages.old free.old }
+    requires maps_value { (mapped_tables_ok (length counts.now) (length jobs.now) (length maps.now) ≡ true) × Drainable counts.now starts.now x.0 order.now pages.old free.old × Hints counts.now pages.old hints.old }
     requires by_index { (distances : List ℕ) × (order.now ≡ near_others (length counts.now) distances x.0) }
     ensures answer { (distances : List ℕ) → order.now ≡ near_others (length counts.now) distances x.0 → decision_of result ≡ count_of (moves_within counts.now distances x.0 (tables_of pages.old jobs.now free.old maps.now) room) }
     ensures tables { (distances : List ℕ) → order.now ≡ near_others (length counts.now) distances x.0 → tables_of pages.new jobs.now free.new maps.now ≡ tables_after x.0 (tables_of pages.old jobs.now free.old maps.now) (moves_within counts.now distances x.0 (tables_of pages.old jobs.now free.old maps.now) room) }
     ensures pairs { (distances : List ℕ) → order.now ≡ near_others (length counts.now) distances x.0 → room ≡ length out.old → out.new ≡ pairs_after out.old (moves_within counts.now distances x.0 (tables_of pages.old jobs.now free.old maps.now) room) }
+    ensures kept { Hints counts.now pages.new hints.new }
 {
     if !goals::all_go(counts, starts, order, pages, jobs, free, maps, x) {
         return Decision::Refuse(Refusal::NowhereToGo);
@@ -50,7 +54,9 @@ fn drain_by(
     if room < 2 * moves {
         return Decision::Refuse(Refusal::OutputTooShort);
     }
-    moving::move_all(counts, starts, order, pages, jobs, free, maps, x, out);
+    moving::move_all(
+        counts, starts, hints, order, pages, jobs, free, maps, x, out,
+    );
     Decision::Accept(moves as u64)
 }
 
@@ -58,6 +64,7 @@ fn drain_by(
 pub fn drain_at(
     counts: &[u32],
     starts: &[u32; MOST_NODES + 1],
+    hints: &mut [u32; HINTS],
     distances: &[u8],
     pages: &mut [u8],
     jobs: &[u64],
@@ -67,10 +74,11 @@ pub fn drain_at(
     room: usize,
     out: &mut [u32],
 ) -> Decision
-    requires { (drain_tables_ok counts.now distances.now (tables_of pages.old jobs.now free.old maps.now) ≡ true) × Starts counts.now starts.now }
+    requires { (drain_tables_ok counts.now distances.now (tables_of pages.old jobs.now free.old maps.now) ≡ true) × Starts counts.now starts.now × Hints counts.now pages.old hints.old }
     ensures answer { decision_of result ≡ count_of (drain_moves counts.now distances.now node (tables_of pages.old jobs.now free.old maps.now) room) }
     ensures tables { tables_of pages.new jobs.now free.new maps.now ≡ tables_after node (tables_of pages.old jobs.now free.old maps.now) (drain_moves counts.now distances.now node (tables_of pages.old jobs.now free.old maps.now) room) }
     ensures pairs { room ≡ length out.old → out.new ≡ pairs_after out.old (drain_moves counts.now distances.now node (tables_of pages.old jobs.now free.old maps.now) room) }
+    ensures kept { Hints counts.now pages.new hints.new }
 {
     let nodes = counts.len();
     if node >= nodes {
@@ -86,6 +94,7 @@ pub fn drain_at(
     drain_by(
         counts,
         starts,
+        hints,
         &order[1..len],
         pages,
         jobs,
@@ -128,8 +137,9 @@ pub fn drain(
     ) {
         return Decision::Refuse(Refusal::BadTables);
     }
+    let mut hints = [0u32; HINTS];
     let room = out.len();
     drain_at(
-        counts, &starts, distances, pages, jobs, free, maps, node, room, out,
+        counts, &starts, &mut hints, distances, pages, jobs, free, maps, node, room, out,
     )
 }

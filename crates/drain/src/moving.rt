@@ -5,21 +5,24 @@ ghost use Rattle.std.proofs.Math.Option.{some};
 ghost use Rattle.rules.specs.Decisions.{accept};
 ghost use Rattle.rules.specs.Calls.{tables_of, after_writes, applied, mapped_tables_ok};
 ghost use Rattle.rules.specs.Drain.{Move, held_pages, moves, move_writes, draining, pairs};
-ghost use Rattle.drain.specs.Goals.{goal_by, Known, after_move, near_others};
+ghost use Rattle.placement.specs.Hints.{Hints};
+ghost use Rattle.drain.specs.Goals.{goal_by, Met, after_move, near_others};
 ghost use Rattle.drain.specs.Moving.{Carries, MayCarry};
 ghost use Rattle.drain.specs.Reached.{Drainable, move_by};
-ghost use Rattle.drain.specs.Spots.{Spots};
 
-use super::goals::BYTES;
-use super::picking::SPOTS;
-use super::{goals, picking};
+use super::goals;
+use super::goals::{BYTES, Goal};
+use placement::grant::Marked;
+use placement::hinting::HINTS;
+use placement::placed::Placed;
+use placement::{grant, hinting};
 use rules::{MOST_NODES, Page, SysNode};
 
-// Moves one page of node x to a node that has room: the new page.
+// Moves one page of node x to a node that has room: the new page, and the hints kept.
 fn carry(
     counts: &[u32],
     starts: &[u32; MOST_NODES + 1],
-    spots: &mut [u32; SPOTS],
+    hints: &mut [u32; HINTS],
     pages: &mut [u8],
     free: &mut [u32],
     x: SysNode,
@@ -27,16 +30,24 @@ fn carry(
     node: SysNode,
     byte: u8,
 ) -> Page
-    requires { Carries counts.now starts.now pages.old free.old x.0 page.0 node.0 byte × Spots counts.now pages.old x.0 spots.old }
+    requires { Carries counts.now starts.now pages.old free.old x.0 page.0 node.0 byte × Hints counts.now pages.old hints.old }
     ensures taken { result.0 ≡ (move_by counts.now pages.old page.0 node.0 byte).new }
     ensures table { pages.new ≡ after_writes pages.old (move_writes (move_by counts.now pages.old page.0 node.0 byte)) }
     ensures counted { free.new ≡ after_move x.0 free.old node.0 }
-    ensures kept { Spots counts.now pages.new x.0 spots.new }
+    ensures kept { Hints counts.now pages.new hints.new }
 {
-    let new = picking::take_page(counts, starts, spots, pages, node, byte);
-    pages[page.0 as usize] = 0;
-    goals::count_move(free, x, node);
-    new
+    let job = byte - 1;
+    let marked = grant::mark_page(counts, starts, &hints[..], pages, node, job);
+    match marked {
+        Marked::At(new) => {
+            hinting::keep(starts, hints, job as usize, Placed::Granted(node, new));
+            pages[page.0 as usize] = 0;
+            hinting::keep(starts, hints, job as usize, Placed::Released(x, page));
+            goals::count_move(free, x, node);
+            new
+        }
+        Marked::Full => page,
+    }
 }
 
 // Puts a pair, old page then new, where there is room for it.
@@ -54,7 +65,7 @@ fn put_pair(out: &mut [u32], at: usize, old: Page, new: Page)
 fn move_at(
     counts: &[u32],
     starts: &[u32; MOST_NODES + 1],
-    spots: &mut [u32; SPOTS],
+    hints: &mut [u32; HINTS],
     order: &[u8],
     pages: &mut [u8],
     jobs: &[u64],
@@ -62,46 +73,37 @@ fn move_at(
     maps: &[u8],
     limits: &mut [u64; BYTES],
     met: &mut [u8; BYTES],
-    last: &mut [u8; BYTES],
     x: SysNode,
     page: Page,
     out: &mut [u32],
     at: usize,
 ) -> usize
     requires maps_value { (mapped_tables_ok (length counts.now) (length jobs.now) (length maps.now) ≡ true) × Drainable counts.now starts.now x.0 order.now pages.old free.old × MayCarry counts.now order.now pages.old jobs.now free.old maps.now x.0 page.0 × (at + 2 ≤ 18446744073709551615) }
-    requires known { Known (length counts.now) order.now jobs.now maps.now free.old limits.old met.old last.old × Spots counts.now pages.old x.0 spots.old }
+    requires met { Met (length counts.now) order.now jobs.now maps.now free.old limits.old met.old × Hints counts.now pages.old hints.old }
     ensures stays { get_or pages.old page.0 0 ≡ 0 → (result ≡ at) × (pages.new ≡ pages.old) × (free.new ≡ free.old) × (out.new ≡ out.old) }
     ensures moves { 0 < get_or pages.old page.0 0 → (k : ℕ) → goal_by (length counts.now) order.now jobs.now maps.now free.old (get_or pages.old page.0 0 - 1) ≡ some k → (result ≡ at + 2) × (pages.new ≡ after_writes pages.old (move_writes (move_by counts.now pages.old page.0 k (get_or pages.old page.0 0)))) × (free.new ≡ after_move x.0 free.old k) × (at + 2 ≤ length out.old → out.new ≡ set (set out.old at page.0) (at + 1) (move_by counts.now pages.old page.0 k (get_or pages.old page.0 0)).new) }
-    ensures kept { Known (length counts.now) order.now jobs.now maps.now free.new limits.new met.new last.new × Spots counts.now pages.new x.0 spots.new }
+    ensures kept { Met (length counts.now) order.now jobs.now maps.now free.new limits.new met.new × Hints counts.now pages.new hints.new }
 {
     let byte = pages[page.0 as usize];
     if byte == 0 {
         return at;
     }
-    let goal = goals::goal_of(
-        counts.len(),
-        order,
-        jobs,
-        maps,
-        free,
-        limits,
-        met,
-        last,
-        byte,
-    );
-    if goal == 0 {
-        return at;
+    let goal = goals::goal_of(counts.len(), order, jobs, maps, free, limits, met, byte);
+    match goal {
+        Goal::At(node) => {
+            let new = carry(counts, starts, hints, pages, free, x, page, node, byte);
+            put_pair(out, at, page, new);
+            at + 2
+        }
+        Goal::Nowhere => at,
     }
-    let node = SysNode(goal - 1);
-    let new = carry(counts, starts, spots, pages, free, x, page, node, byte);
-    put_pair(out, at, page, new);
-    at + 2
 }
 
 // Moves every held page of node x, from the lowest up, and puts the pairs as far as there is room.
 pub fn move_all(
     counts: &[u32],
     starts: &[u32; MOST_NODES + 1],
+    hints: &mut [u32; HINTS],
     order: &[u8],
     pages: &mut [u8],
     jobs: &[u64],
@@ -110,14 +112,13 @@ pub fn move_all(
     x: SysNode,
     out: &mut [u32],
 )
-    requires maps_value { (mapped_tables_ok (length counts.now) (length jobs.now) (length maps.now) ≡ true) × Drainable counts.now starts.now x.0 order.now pages.old free.old }
+    requires maps_value { (mapped_tables_ok (length counts.now) (length jobs.now) (length maps.now) ≡ true) × Drainable counts.now starts.now x.0 order.now pages.old free.old × Hints counts.now pages.old hints.old }
     requires by_index { (distances : List ℕ) × (vs : List Move) × (order.now ≡ near_others (length counts.now) distances x.0) × (moves counts.now distances x.0 (tables_of pages.old jobs.now free.old maps.now) (held_pages counts.now pages.old x.0) ≡ accept vs) }
     ensures moved { (distances : List ℕ) (vs : List Move) → order.now ≡ near_others (length counts.now) distances x.0 → moves counts.now distances x.0 (tables_of pages.old jobs.now free.old maps.now) (held_pages counts.now pages.old x.0) ≡ accept vs → (tables_of pages.new jobs.now free.new maps.now ≡ (applied (tables_of pages.old jobs.now free.old maps.now) (accept (draining x.0 (tables_of pages.old jobs.now free.old maps.now) vs))).tables) × (2 * length vs ≤ length out.old → out.new ≡ pairs vs ++ drop (2 * length vs) out.old) }
+    ensures kept { Hints counts.now pages.new hints.new }
 {
     let mut limits = [0u64; BYTES];
     let mut met = [0u8; BYTES];
-    let mut last = [0u8; BYTES];
-    let mut spots = picking::first_spots(counts, starts);
     let end = starts[x.0 as usize + 1];
     let mut i = starts[x.0 as usize];
     let mut at: usize = 0;
@@ -125,7 +126,7 @@ pub fn move_all(
         at = move_at(
             counts,
             starts,
-            &mut spots,
+            hints,
             order,
             pages,
             jobs,
@@ -133,7 +134,6 @@ pub fn move_all(
             maps,
             &mut limits,
             &mut met,
-            &mut last,
             x,
             Page(i),
             out,

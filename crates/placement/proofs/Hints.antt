@@ -148,7 +148,7 @@ module _ (counts ledger hints : List ℕ) (h : Hints counts ledger hints) where
         (λ q o w l. still_held ledger p v q above
         (λ e. not_free n q o (λ g. true≢false (sym (f.coloured q g (of_colour q w)).0 ∙ c))))
 
-    granted_hint : (b : Bool) → has_colour counts j n p ≡ b
+    pub granted_hint : (b : Bool) → has_colour counts j n p ≡ b
         → Hints counts (set ledger p v)
         (cond b (set hints (hint_at n (j % 4)) (p + 1))
         (set (set hints (hint_at n all_pages) (p + 1)) (hint_at n (j % 4)) (first_page counts n + get_or counts n 0)))
@@ -156,7 +156,7 @@ module _ (counts ledger hints : List ℕ) (h : Hints counts ledger hints) where
     granted_hint false e = other_colour e
 
   -- a page is released: its node's hint for all pages goes down to it, and the one for its colour
-  released_hint : (p : ℕ) → p < sum counts
+  pub released_hint : (p : ℕ) → p < sum counts
       → (let n = node_of_page counts p in
       Hints counts (set ledger p 0) (lowered (lowered hints (hint_at n all_pages) p) (hint_at n (colour_of counts n p)) p))
   released_hint p l = record { held = λ k c q a b w u. still k c q a b w (below_lowered (lowered hints (hint_at n all_pages) p) own (hint_at k c) p q u) }

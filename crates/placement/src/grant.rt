@@ -59,7 +59,7 @@ fn part_of(starts: &[u32; MOST_NODES + 1], hints: &[u32], node: SysNode, job: u8
 }
 
 // Marks the page of a node that a job gets: the node's part of the page table, from its hint on, lent on to the page picker.
-fn mark_page(
+pub fn mark_page(
     counts: &[u32],
     starts: &[u32; MOST_NODES + 1],
     hints: &[u32],

@@ -1,9 +1,11 @@
 // Hints: pages before which the pages of a node, or those of one colour, are held. A list of calls keeps them; a single call has none.
 
-ghost use Rattle.std.specs.Prelude.{ℕ, ◌+◌, ◌*◌, ◌<◌, ◌≤◌, ◌≡◌, get_or};
+ghost use Rattle.std.specs.Prelude.{ℕ, ◌+◌, ◌-◌, ◌*◌, ◌%◌, ◌<◌, ◌≤◌, ◌≡◌, get_or};
 ghost use Rattle.rules.specs.Masks.{most_nodes};
-ghost use Rattle.placement.specs.Hints.{hint_at};
+ghost use Rattle.placement.specs.Hints.{hint_at, lowered, hinted, Named};
+ghost use Rattle.placement.specs.declared.placed.Placed.TheVariants.{Granted};
 
+use super::placed::Placed;
 use rules::{MOST_NODES, Page, SysNode};
 
 // Five hints to a node: one for each colour, and one for all its pages.
@@ -37,4 +39,63 @@ pub fn search_from(hints: &[u32], at: usize, least: Page, most: Page) -> Page
         return most;
     }
     Page(hint)
+}
+
+// ---- the hints after a call
+
+// The colour of a page, by its node's first page.
+fn colour_of(first: Page, page: Page) -> usize
+    requires { first.0 ≤ page.0 }
+    ensures { result ≡ (page.0 - first.0) % 4 }
+{
+    ((page.0 - first.0) % 4) as usize
+}
+
+// The hints after a grant: the page was the lowest free one of the job's colour; or the lowest free one, and none of that colour is free.
+fn keep_granted(
+    starts: &[u32; MOST_NODES + 1],
+    hints: &mut [u32; HINTS],
+    job: usize,
+    node: SysNode,
+    page: Page,
+)
+    requires { Named starts.now (Granted node page) }
+    ensures { hints.new ≡ hinted starts.now job hints.old (Granted node page) }
+{
+    let n = node.0 as usize;
+    let own = hint_at(node, job % 4);
+    if colour_of(Page(starts[n]), page) == job % 4 {
+        hints[own] = page.0 + 1;
+    } else {
+        hints[hint_at(node, ALL_PAGES)] = page.0 + 1;
+        hints[own] = starts[n + 1];
+    }
+}
+
+// A hint goes down to a page that is released before it.
+fn lower_hint(hints: &mut [u32; HINTS], at: usize, page: Page)
+    requires { at < 5 * most_nodes }
+    ensures { hints.new ≡ lowered hints.old at page.0 }
+{
+    if page.0 < hints[at] {
+        hints[at] = page.0;
+    }
+}
+
+// The hints after a page is placed for a job.
+pub fn keep(starts: &[u32; MOST_NODES + 1], hints: &mut [u32; HINTS], job: usize, placed: Placed)
+    requires { Named starts.now placed }
+    ensures { hints.new ≡ hinted starts.now job hints.old placed }
+{
+    match placed {
+        Placed::Granted(node, page) => {
+            keep_granted(starts, hints, job, node, page);
+        }
+        Placed::Released(node, page) => {
+            let colour = colour_of(Page(starts[node.0 as usize]), page);
+            lower_hint(hints, hint_at(node, ALL_PAGES), page);
+            lower_hint(hints, hint_at(node, colour), page);
+        }
+        Placed::Refused(_) => {}
+    }
 }

@@ -1,4 +1,4 @@
--- `drain` meets its contract: refusal 1, or the drain on tables that are in order.
+-- `drain` meets its contract: refusal 1, or the drain with no hints.
 -- Assumes nothing.
 use mathlib.Core.Path.{◌≡◌, refl, sym, ◌∙◌}
 use mathlib.Core.Bool.{true, ◌&&◌}
@@ -9,6 +9,7 @@ use Rattle.rules.specs.Machine.{nodes_ok, pages_ok, distances_ok}
 use Rattle.rules.specs.Calls.{Tables, tables_of}
 use Rattle.rules.specs.Drain.{drain_tables_ok}
 use Rattle.rules.proofs.Machine.{counts_in_order}
+use Rattle.placement.proofs.Hints.{zero_hints}
 use Rattle.drain.proofs.Lent.{moves_1, bad_counts, bad_distances, lent_tested, drain_refused, drain_came}
 use Rattle.drain.proofs.drain.Goals as goal
 
@@ -50,8 +51,11 @@ drain_at-requires c = let tables : Tables = tables_of c.args.pages.now c.args.jo
     let counts-ok : (nodes_ok (length c.args.counts.now) && pages_ok c.args.counts.now) ≡ true = sym c.page_counts_ok.ensures ∙ c.if-not-page_counts_ok.false in
     let distances-ok : distances_ok (length c.args.counts.now) c.args.distances.now ≡ true = sym c.distances_ok.ensures ∙ c.if-not-distances_ok.false in
     let tested : c.lent_ok.result ≡ drain_tables_ok c.args.counts.now c.args.distances.now (tables) = c.lent_ok.ensures ∙ lent_tested
-    c.args.counts.now c.args.distances.now (tables) c.pages_end-total.ensures (counts-ok) (distances-ok) in
-    (sym tested ∙ c.if-not-lent_ok.false, c.starts_of-starts.ensures)
+    c.args.counts.now c.args.distances.now (tables) c.pages_end-total.ensures (counts-ok) (distances-ok) in (
+      sym tested ∙ c.if-not-lent_ok.false,
+      c.starts_of-starts.ensures,
+      zero_hints c.args.counts.now c.args.pages.now 320,
+    )
 
 pub returns : goal.returns
 returns c = let tables : Tables = tables_of c.args.pages.now c.args.jobs.now c.args.free.now c.args.maps.now in

@@ -1,16 +1,18 @@
 -- `drain_at` meets its contract: each refusal in its turn, or the drain by the order that is listed.
 -- Assumes nothing.
 use Prim.Native.Nat.{ℕ, ◌-◌, ◌≤◌, ◌<◌}
-use mathlib.Core.Path.{◌≡◌, sym, subst, ◌∙◌}
+use mathlib.Core.Path.{◌≡◌, refl, sym, ap, subst, ◌∙◌}
 use mathlib.Core.Bool.{true, false}
+use mathlib.Core.List.{List}
 use native.Mathlib.Omega.{arith}
 use borrow.Author.Rules.{rules}
 use borrow.Author.Tests.{not-true, not-false}
 use lib.ListN.{length, take, drop}
 use Rattle.rules.specs.Masks.{most_nodes, all_nodes}
 use Rattle.rules.specs.SearchOrder.{near, free_counts}
+use Rattle.rules.specs.Decisions.{refuse}
 use Rattle.rules.specs.Calls.{Tables, tables_of}
-use Rattle.rules.specs.Drain.{counts_match}
+use Rattle.rules.specs.Drain.{counts_match, moves_within, drain_moves}
 use Rattle.rules.proofs.Lists.{same_lists}
 use Rattle.machine.specs.Listing.{Listed}
 use Rattle.drain.specs.Goals.{near_others}
@@ -27,6 +29,7 @@ returns-then-node-nodes c = let tables : Tables = tables_of c.args.pages.now c.a
       answer = rw e;
       tables = rw e;
       pairs = λ l. rw e;
+      kept = c.requires.2;
     }
 
 pub counts_match-requires : goal.counts_match-requires
@@ -44,6 +47,7 @@ returns-then-not-counts_match c = let tables : Tables = tables_of c.args.pages.n
       answer = rw e;
       tables = rw e;
       pairs = λ l. rw e;
+      kept = c.requires.2;
     }
 
 pub near-listed-requires : goal.near-listed-requires
@@ -73,7 +77,7 @@ drain_by-requires c = let tables : Tables = tables_of c.args.pages.now c.args.jo
       matches = same_lists c.args.free.now (free_counts c.args.counts.now c.args.pages.now) (matching);
     } in
     record {
-      maps_value = (mapped_are c.args.counts.now c.args.distances.now tables c.requires.0, drainable);
+      maps_value = (mapped_are c.args.counts.now c.args.distances.now tables c.requires.0, drainable, c.requires.2);
       by_index = (c.args.distances.now, order);
     }
 
@@ -95,6 +99,7 @@ returns c = let tables : Tables = tables_of c.args.pages.now c.args.jobs.now c.a
       answer = w.answer c.args.distances.now order ∙ rw e;
       tables = w.tables c.args.distances.now order ∙ rw e;
       pairs = λ l. w.pairs c.args.distances.now order l ∙ rw e;
+      kept = w.kept;
     }
 
 pub overflow_cast-x : goal.overflow_cast-x

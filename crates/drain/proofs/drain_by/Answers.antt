@@ -1,7 +1,7 @@
 -- `drain_by` meets its contract: 17, 11, or all moves.
 -- Assumes nothing.
-use Prim.Native.Nat.{ℕ, ◌-◌, ◌≤◌}
-use mathlib.Core.Path.{◌≡◌, sym, ap}
+use Prim.Native.Nat.{ℕ, ◌-◌, ◌*◌, ◌≤◌, ◌<◌}
+use mathlib.Core.Path.{◌≡◌, refl, sym, ap, ◌∙◌}
 use mathlib.Core.List.{List}
 use native.Mathlib.Omega.{arith}
 use borrow.Author.Rules.{rules}
@@ -12,6 +12,7 @@ use Rattle.rules.specs.Calls.{Tables, tables_of}
 use Rattle.rules.specs.Drain.{Move, held_pages, moves, moves_within}
 use Rattle.placement.proofs.Grants.{node_end}
 use Rattle.drain.specs.Goals.{near_others}
+use Rattle.drain.specs.Outcomes.{count_of, tables_after, pairs_after}
 use Rattle.drain.proofs.Reached.{moves_count}
 use Rattle.drain.proofs.Within.{stuck, all_moved, within_17, within_11, within_ok, count_low}
 use Rattle.drain.proofs.drain_by.Goals as goal
@@ -28,6 +29,7 @@ returns-then-not-all_go c = let tables : Tables = tables_of c.args.pages.now c.a
       answer = λ distances e. rw (is-17 distances e);
       tables = λ distances e. rw (is-17 distances e);
       pairs = λ distances e l. rw (is-17 distances e);
+      kept = c.requires.maps_value.2;
     }
 
 pub returns-then-room-moves : goal.returns-then-room-moves
@@ -47,6 +49,7 @@ returns-then-room-moves c = let tables : Tables = tables_of c.args.pages.now c.a
       answer = λ distances e. rw (is-11 distances e);
       tables = λ distances e. rw (is-11 distances e);
       pairs = λ distances e l. rw (is-11 distances e);
+      kept = c.requires.maps_value.2;
     }
 
 pub returns : goal.returns
@@ -63,12 +66,13 @@ returns c = let tables : Tables = tables_of c.args.pages.now c.args.jobs.now c.a
     let is_ok : (distances : List ℕ) → (e : IsOrder distances) → lawBy distances ≡ accept (all distances e).0 = λ distances e. let v = all distances
     e in within_ok c.args.counts.now distances c.args.x.0 (tables) c.args.room v.1
     (omega (arith, c.if-room-moves.false, count distances v.0 v.1)) in
-    let done = c.move_all.ensures.moved in record {
+    let done = c.move_all.ensures in record {
       answer = λ distances e. let v = all distances e in rw (is_ok distances e) (ap accept (sym (count distances v.0 v.1)));
-      tables = λ distances e. let v = all distances e in rw (is_ok distances e) (done distances v.0 e v.1).0;
+      tables = λ distances e. let v = all distances e in rw (is_ok distances e) (done.moved distances v.0 e v.1).0;
       pairs = λ distances e l. let v = all distances e in
           rw (is_ok distances e)
-          ((done distances v.0 e v.1).1 (omega (arith, l, c.if-room-moves.false, count distances v.0 v.1)));
+          ((done.moved distances v.0 e v.1).1 (omega (arith, l, c.if-room-moves.false, count distances v.0 v.1)));
+      kept = done.kept;
     }
 
 pub overflow_sub-moves : goal.overflow_sub-moves

@@ -1,7 +1,6 @@
 -- `hints::drain_node` meets its contract: the drain with no table for the pairs.
 -- Assumes nothing.
-use Prim.Native.Nat.{ℕ}
-use mathlib.Core.Path.{sym, ap, subst, ◌∙◌}
+use mathlib.Core.Path.{sym, ap, ◌∙◌}
 use mathlib.Core.List.{List}
 use native.Mathlib.Omega.{arith}
 use borrow.Author.Rules.{rules}
@@ -10,9 +9,6 @@ use Rattle.rules.specs.Answers.{decision_of}
 use Rattle.rules.specs.Decisions.{Decision, decided}
 use Rattle.rules.specs.Calls.{Answer, drained, refused, Tables, tables_of}
 use Rattle.rules.specs.Drain.{Move, drain_moves}
-use Rattle.placement.specs.Hints.{Hints}
-use Rattle.placement.proofs.Hints.{zero_hints}
-use Rattle.drain.specs.Outcomes.{tables_after}
 use Rattle.drain.proofs.Lent.{drained_few, drain_step}
 use Rattle.book.proofs.Steps.{counted_moves, refused_moves}
 use Rattle.book.proofs.hints.drain_node.Goals as goal
@@ -27,7 +23,6 @@ overflow_cast-result c = let tables : Tables = tables_of c.args.pages.now c.args
     let m = counted_moves movesBy (ap decision_of (sym c.in-Accept.is) ∙ c.drain_at-done.ensures.answer) in
     omega (arith, m.2, drained_few c.args.counts.now c.args.distances.now c.args.node tables c.args.room m.1)
 
--- it is made: zeros are hints for any page table
 pub returns-in-Accept : goal.returns-in-Accept
 returns-in-Accept c = let tables : Tables = tables_of c.args.pages.now c.args.jobs.now c.args.free.now c.args.maps.now in
     let movesBy : Decision (List Move) = drain_moves c.args.counts.now c.args.distances.now c.args.node (tables) c.args.room in
@@ -35,16 +30,15 @@ returns-in-Accept c = let tables : Tables = tables_of c.args.pages.now c.args.jo
     let m = counted_moves movesBy (ap decision_of (sym c.in-Accept.is) ∙ w.answer) in record {
       did = drain_step c.args.counts.now c.args.distances.now c.args.node tables c.args.room (ap drained m.2 ∙ sym (ap told m.1))
           w.tables;
-      kept = zero_hints _ _ 320;
+      kept = w.kept;
     }
 
--- it is refused: the page table is as it was
 pub returns-in-Refuse : goal.returns-in-Refuse
 returns-in-Refuse c = let tables : Tables = tables_of c.args.pages.now c.args.jobs.now c.args.free.now c.args.maps.now in
     let movesBy : Decision (List Move) = drain_moves c.args.counts.now c.args.distances.now c.args.node (tables) c.args.room in
     let w = c.drain_at-done.ensures in
     let m = refused_moves movesBy (ap decision_of (sym c.in-Refuse.is) ∙ w.answer) in
-    let same = ap (λ (t : Tables). t.ledger) (w.tables ∙ ap (tables_after c.args.node tables) m) in record {
+    record {
       did = drain_step c.args.counts.now c.args.distances.now c.args.node tables c.args.room (sym (ap told m)) w.tables;
-      kept = subst (λ (l : List ℕ). Hints c.args.counts.now l c.args.hints.now) (sym same) c.requires.2;
+      kept = w.kept;
     }

@@ -6,13 +6,13 @@ use native.Mathlib.Omega.{arith}
 use borrow.Author.Rules.{rules}
 use borrow.Author.Tests.{not-true, not-false}
 use lib.ListN.{length, get_or, drop}
-use Rattle.drain.specs.Goals.{Known, Ordered, passes}
-use Rattle.drain.proofs.Last.{none_known}
+use Rattle.drain.specs.Goals.{Met, Ordered, passes}
+use Rattle.drain.proofs.Open.{none_met}
 use Rattle.drain.proofs.Passes.{AfterPage, after_page, pass_end}
 use Rattle.drain.proofs.goals.all_pass.Goals as goal
 
 pub loop-i-init : goal.loop-i-init
-loop-i-init c = (search rules, c.requires.1, none_known c.args.nodes c.args.order.now c.args.jobs.now c.args.maps.now c.args.free.now, omega arith, refl)
+loop-i-init c = (search rules, c.requires.1, none_met c.args.nodes c.args.order.now c.args.jobs.now c.args.maps.now c.args.free.now, omega arith, refl)
 
 pub returns-then-not-pass : goal.returns-then-not-pass
 returns-then-not-pass c = let after : AfterPage c.args.nodes c.args.order.now c.args.jobs.now c.args.maps.now c.args.x.0 c.args.part.now c.loop-i.i

@@ -2,7 +2,7 @@
 -- Assumes nothing.
 use Prim.Native.Nat.{◌+◌, ◌-◌, ◌*◌, ◌≤◌}
 use mathlib.Core.Path.{◌≡◌, sym, ap, subst, ◌∙◌}
-use mathlib.Core.Bool.{true}
+use mathlib.Core.Bool.{true, false}
 use borrow.Author.Rules.{rules}
 use borrow.Author.Tests.{not-true, not-false, ltb-true}
 use lib.ListN.{length}
@@ -15,7 +15,7 @@ use Rattle.rules.proofs.Kept.{mapped_nodes}
 use Rattle.rules.proofs.Maps.{map_long}
 use Rattle.maps.specs.Judging.{Judges}
 use Rattle.maps.specs.declared.judging.Judged.TheVariants.{Good}
-use Rattle.placement.specs.Admissions.{admission_of, LimitIs}
+use Rattle.placement.specs.Admissions.{admission_of, LimitIs, admit_tests}
 use Rattle.drain.proofs.Holders.{admitted_formed, refused_malformed, no_job_lem, bad_map_lem, malformed, holder}
 use Rattle.drain.proofs.goals.holder_of.Goals as goal
 

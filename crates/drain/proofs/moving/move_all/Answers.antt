@@ -7,10 +7,10 @@ use borrow.Author.Rules.{rules}
 use lib.ListN.{length, get_or}
 use Rattle.rules.specs.Machine.{first_page}
 use Rattle.rules.specs.Calls.{tables_of}
+use Rattle.placement.specs.Hints.{Hints}
 use Rattle.placement.proofs.Grants.{node_end, first_is, end_is}
-use Rattle.drain.specs.Goals.{Known}
-use Rattle.drain.specs.Spots.{Spots}
-use Rattle.drain.proofs.Last.{none_known}
+use Rattle.drain.specs.Goals.{Met}
+use Rattle.drain.proofs.Open.{none_met}
 use Rattle.drain.proofs.Going.{Gone, none_gone, all_gone, now_drainable, next_carried, next_gone}
 use Rattle.drain.proofs.moving.move_all.Goals as goal
 
@@ -25,7 +25,7 @@ loop-i-init c = let bounds : (c.args.x.0 < length c.args.counts.now) × (length 
       end_is c.requires.maps_value.1.paged c.args.x.0 c.requires.maps_value.1.ordered.node,
       omega (arith, node_end c.args.counts.now c.args.x.0, c.requires.maps_value.1.paged.pages),
     ) in
-    (none_gone c.requires.maps_value.1 bounds.2, none_known _ _ _ _ _, c.first_spots-spots.ensures c.args.pages.now c.args.x.0)
+    (none_gone c.requires.maps_value.1 bounds.2, none_met _ _ _ _ _, c.requires.maps_value.2)
 
 pub move_at-at-requires : goal.move_at-at-requires
 move_at-at-requires c = let bounds : (c.args.x.0 < length c.args.counts.now) × (length c.args.counts.now ≤ 64) ×
@@ -51,7 +51,7 @@ move_at-at-requires c = let bounds : (c.args.x.0 < length c.args.counts.now) × 
             c.requires.by_index.2 c.requires.by_index.3 inside,
         fits,
       );
-      known = (v.1, v.2);
+      met = (v.1, v.2);
     }
 
 pub loop-i-preserved : goal.loop-i-preserved
@@ -87,4 +87,7 @@ returns c = let bounds : (c.args.x.0 < length c.args.counts.now) × (length c.ar
     ) in
     let v = c.loop-i.invariant in
     let last : get_or c.args.starts.now (c.args.x.0 + 1) 0 ≤ c.loop-i.i = omega (arith, c.loop-i-test.false) in
-    record { moved = all_gone c.requires.maps_value.1 v.0 (omega (arith, v.0.to, bounds.3)) }
+    record {
+      moved = all_gone c.requires.maps_value.1 v.0 (omega (arith, v.0.to, bounds.3));
+      kept = v.2;
+    }
