@@ -8,21 +8,32 @@ use Rattle.rules.specs.Machine.{Machine}
 use Rattle.rules.specs.Calls.{Tables}
 use Rattle.rules.proofs.Lists.{both_true, either_false}
 use Rattle.journal.specs.declared.run.Part.{Part}
-use Rattle.journal.specs.Parts.{answer_size, is_whole, is_ready, on_part}
+use Rattle.journal.specs.Parts.{answer_size, is_whole, is_ready, Passed, on_part}
 use Rattle.journal.specs.Passes.{passed}
 use Rattle.journal.proofs.Within.{read_within, none_left}
 use Rattle.placer.specs.declared.failure.Failure.{Failure}
+use Rattle.placer.specs.declared.stdio.Got.{Got}
+use Rattle.placer.specs.declared.stdio.Got.TheVariants.{Bytes}
 use Rattle.placer.specs.declared.part.Rest.{Rest}
 use Rattle.placer.specs.declared.part.Rest.TheVariants.{Kept}
-use Rattle.placer.specs.Parts.{Keeps, Answered, Turn}
+use Rattle.placer.specs.Parts.{AtMost, Keeps, GoesOn, Answered, Turn}
 
--- bytes that are kept lie within the input
+-- bytes that came lie within what there was room for
+pub came : {most n : ℕ} {r : Got} → r ≡ Bytes n → AtMost most r → n ≤ most
+came {most} e h = subst (λ (r : Got). AtMost most r) e h
+
+-- so do bytes that are kept
 pub left : {m : Machine} {t t' : Tables} {kept out input output : List ℕ} {n : ℕ} {r : Result Rest Failure} → r ≡ Ok (Kept n)
     → Turn m t kept out t' input output r → n ≤ length input
 left {m} {t} {kept = kept} {out = out} {input = input} {n = n} e (inl took) =
     let there = kept ++ took.came in
     (subst (λ (r : Result Rest Failure). Keeps (drop (on_part m t there took.ended out).read there) input r) e took.answered.keeps).0
 left {n = n} e (inr f) = let h = subst (λ (r : Result Rest Failure). IsErr r) e f.0 in cc
+
+-- a part that is done, and what it left is kept
+pub answered : {q p : Passed} (there : List ℕ) (ended : Bool) {input : List ℕ} {r : Result Rest Failure} → q ≡ p
+    → Keeps (drop q.read there) input r → GoesOn (q.more && not ended) r → Answered p there ended q.tables input q.output r
+answered there ended e k g = rw (← e) (record { tables = refl; output = refl; keeps = k; goes_on = g })
 
 -- bytes that came stand behind those that were kept
 arrived : (bs new : List ℕ) (kept came : ℕ) → kept ≤ length bs → take (kept + came) (take kept bs ++ new) ≡ take kept bs ++ take came new
@@ -41,7 +52,7 @@ not_whole : (ended : Bool) (bs : List ℕ) → ended ≡ false → is_ready ende
 not_whole ended bs e h = (either_false {a = is_whole bs} h).0
 
 -- what a part left of the bytes that were there, moved to the front, is kept
-kept_left : (bs : List ℕ) {moved : List ℕ} {there used : ℕ} (ended : Bool) → there ≤ length bs → used ≤ there
+pub kept_left : (bs : List ℕ) {moved : List ℕ} {there used : ℕ} (ended : Bool) → there ≤ length bs → used ≤ there
     → moved ≡ take (there - used) (drop used bs) ++ drop (there - used) bs → ended ≡ false → is_ready ended (drop used (take there bs)) ≡ false
     → Keeps (drop used (take there bs)) moved (Ok (Kept (there - used)))
 kept_left bs {moved} {there} {used} ended l m e f h =
