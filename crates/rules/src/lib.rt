@@ -9,16 +9,16 @@ ghost use Rattle.rules.specs.Answers.{number_of, answer_of, decision_of, numbers
 
 // A node number, a page number and a place in a list are three kinds of number; and a node's number on the machine, by which the tables
 // go, is another than its number in a job's map, by which the job goes.
-#[derive(Clone, Copy)]
+#[derive(Clone, Copy, Debug, PartialEq, Eq, PartialOrd, Ord)]
 pub struct SysNode(pub u8);
 
-#[derive(Clone, Copy)]
+#[derive(Clone, Copy, Debug, PartialEq, Eq, PartialOrd, Ord)]
 pub struct AppNode(pub u8);
 
-#[derive(Clone, Copy)]
+#[derive(Clone, Copy, Debug, PartialEq, Eq, PartialOrd, Ord)]
 pub struct Page(pub u32);
 
-#[derive(Clone, Copy)]
+#[derive(Clone, Copy, Debug, PartialEq, Eq, PartialOrd, Ord)]
 pub struct Place(pub u8);
 
 // "N nodes, 1 to 64", "1 to 64 jobs", "six [words] to a job", "sixteen list places".
@@ -86,7 +86,7 @@ pub fn copy(src: &[u8], out: &mut [u8]) -> usize
 
 // Why a call was refused: document 01, "Refusal numbers", from 1 on; 14 is of request M-100, 15 of M-103, 16 of M-104,
 // 17 of M-107.
-#[derive(Clone, Copy)]
+#[derive(Clone, Copy, Debug, PartialEq, Eq)]
 pub enum Refusal {
     BadTables,
     NoSuchJob,
@@ -108,7 +108,7 @@ pub enum Refusal {
 }
 
 // What a call answers. A node is named by its number in the job's map, FF where it has none. A drain says how many pages it moved.
-#[derive(Clone, Copy)]
+#[derive(Clone, Copy, Debug, PartialEq, Eq)]
 pub enum Answer {
     Granted(AppNode, Page),
     Released(AppNode, Page),
