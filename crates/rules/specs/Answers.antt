@@ -1,15 +1,12 @@
 -- What the code's enums and structs stand for in the rules: document 01's number of each refusal, its answer for each case, its numbers.
-use Rattle.std.specs.Prelude.{ℕ, List, [], ◌∷◌}
+use Rattle.std.specs.Prelude.{ℕ, List, [], ◌∷◌, Result, Ok, Err}
 use Rattle.rules.specs.declared.Refusal.{Refusal}
 use Rattle.rules.specs.declared.Refusal.TheVariants.{BadTables, NoSuchJob, NoSuchCpu, MalformedRecord, UnknownPolicy, DoesNotFit}
 use Rattle.rules.specs.declared.Refusal.TheVariants.{NothingAllowed, NoRoom, NothingEffective, NotHeld, OutputTooShort, BadText}
 use Rattle.rules.specs.declared.Refusal.TheVariants.{DamagedJournal, WrongCount, BadMap, BadNote, NowhereToGo}
-use Rattle.rules.specs.declared.Answer.{Answer}
-use Rattle.rules.specs.declared.Answer.TheVariants.{Granted, Released, Done, Drained, Refused}
-use Rattle.rules.specs.declared.Decision.{Decision}
-use Rattle.rules.specs.declared.Decision.TheVariants.{Accept, Refuse}
-use Rattle.rules.specs.declared.Ordered.{Ordered}
-use Rattle.rules.specs.declared.Ordered.TheVariants.{Listed, Refused as NotListed}
+use Rattle.rules.specs.declared.Effect.{Effect}
+use Rattle.rules.specs.declared.Effect.TheVariants.{Granted, Released, Done, Drained}
+use Rattle.rules.specs.declared.Listed.{Listed}
 use Rattle.rules.specs.declared.Numbers.{Numbers}
 use Rattle.rules.specs.declared.OrderNumbers.{OrderNumbers}
 use Rattle.rules.specs.declared.Number.{Number}
@@ -40,17 +37,17 @@ number_of BadNote = 16
 number_of NowhereToGo = 17
 
 -- "Where an answer is an enum, a definition gives this paper's number and values for each case of the enum"
-abbrev pub answer_of : Answer → LawAnswer
-answer_of (Granted n p) = granted n.0 p.0
-answer_of (Released n p) = released n.0 p.0
-answer_of Done = done
-answer_of (Drained moves) = drained moves
-answer_of (Refused r) = refused (number_of r)
+abbrev pub answer_of : Result Effect Refusal → LawAnswer
+answer_of (Ok (Granted n p)) = granted n.0 p.0
+answer_of (Ok (Released n p)) = released n.0 p.0
+answer_of (Ok Done) = done
+answer_of (Ok (Drained moves)) = drained moves
+answer_of (Err r) = refused (number_of r)
 
 -- a number, or "its number alone"
-abbrev pub decision_of : Decision → LawDecision ℕ
-decision_of (Accept value) = accept value
-decision_of (Refuse r) = refuse (number_of r)
+abbrev pub decision_of : Result ℕ Refusal → LawDecision ℕ
+decision_of (Ok value) = accept value
+decision_of (Err r) = refuse (number_of r)
 
 -- "refusal, node or FF, .. page or FFFFFFFF": the three numbers of an answer
 abbrev pub numbers_in : Numbers → List ℕ
@@ -70,9 +67,9 @@ abbrev pub part_of : Part → LawPart
 part_of p = part_at p.start p.len
 
 -- how many nodes near(x) lists and in how many rounds, or "its number alone"
-abbrev pub ordered_of : Ordered → LawDecision Order
-ordered_of (Listed nodes rounds) = accept (ordered nodes rounds)
-ordered_of (NotListed r) = refuse (number_of r)
+abbrev pub ordered_of : Result Listed Refusal → LawDecision Order
+ordered_of (Ok listed) = accept (ordered listed.nodes listed.rounds)
+ordered_of (Err r) = refuse (number_of r)
 
 -- 0 and both, or the refusal's number, 0 and 0: what near(x) answers, in numbers
 abbrev pub order_numbers : LawDecision Order → List ℕ

@@ -1,8 +1,8 @@
 -- Request M-100, "Free counts kept, not counted": when the counts match the page table, and the law without counts, document 01 with
 -- every amendment but M-100, which the calls then follow: "every call answers as before".
-use Rattle.std.specs.Prelude.{ℕ, ◌≡◌, Bool, ◌&&◌, List, [], ◌∷◌, map, length, ltb}
+use Rattle.std.specs.Prelude.{ℕ, ◌≡◌, Bool, ◌&&◌, List, [], ◌∷◌, length, ltb}
 use Rattle.std.proofs.Math.Option.{Option, none, some}
-use Rattle.rules.specs.Basics.{keep, first, from}
+use Rattle.rules.specs.Basics.{keep, first}
 use Rattle.rules.specs.Machine.{Machine, node_count, nodes_ok, pages_ok, distances_ok, machine_ok, page_table_ok}
 use Rattle.rules.specs.Records.{record_at, well_formed}
 use Rattle.rules.specs.SearchOrder.{Try, has_room, free_counts}

@@ -2,9 +2,9 @@
 
 #![tactic(auto)]
 
-ghost use Rattle.std.specs.Prelude.{◌≡◌, [], ◌∷◌, ◌++◌, ℕ, min, ◌≤◌, length, take, drop, replicate};
+ghost use Rattle.std.specs.Prelude.{◌≡◌, ◌++◌, ℕ, ◌≤◌, length, take, drop, replicate};
 ghost use Rattle.rules.specs.Calls.{numbers};
-ghost use Rattle.rules.specs.Records.{places_per_job, closes};
+ghost use Rattle.rules.specs.Records.{closes};
 ghost use Rattle.rules.specs.Answers.{number_of, answer_of, decision_of, numbers_in, in_numbers, number_in, ordered_of, order_numbers, order_numbers_in};
 
 // A node number, a page number and a place in a list are three kinds of number; and a node's number on the machine, by which the tables
@@ -41,36 +41,22 @@ pub const CLOSING_PLACE: u8 = 0xFF;
 
 const NO_PAGE: u32 = 0xFFFF_FFFF;
 
-// The lower of two bytes: with no early exit, a pass that keeps the lowest compiles to vectors.
-pub fn lower(a: u8, b: u8) -> u8
-    ensures { result ≡ min a b }
+// M-104: "a 255 in the last place": do the places end in it?
+pub fn closes(places: &[u8]) -> bool
+    ensures { result ≡ closes places.now }
 {
-    if a < b {
-        return a;
+    match places.last() {
+        Some(last) => *last == CLOSING_PLACE,
+        None => false,
     }
-    b
-}
-
-// M-104: "a 255 in the last place": do the first `len` places end in it?
-pub fn closes(places: [u8; PLACES_PER_JOB], len: usize) -> bool
-    requires { len ≤ places_per_job }
-    ensures { result ≡ closes (take len places) }
-{
-    if len == 0 {
-        return false;
-    }
-    places[len - 1] == CLOSING_PLACE
 }
 
 // Copies a list over equal bytes: its first entries, as many as have room.
 pub fn copy_first(list: &[u8], out: &mut [u8])
     ensures { (w v : ℕ) → out.old ≡ replicate w v → out.new ≡ take w (list.now ++ replicate w v) }
 {
-    let mut i: usize = 0;
-    while (i < list.len()) & (i < out.len()) {
-        out[i] = list[i];
-        i += 1;
-    }
+    let n = list.len().min(out.len());
+    out[..n].copy_from_slice(&list[..n]);
 }
 
 // Copies bytes over the first of others, which have room for them, and tells how many they are.
@@ -107,33 +93,29 @@ pub enum Refusal {
     NowhereToGo,
 }
 
-// What a call answers. A node is named by its number in the job's map, FF where it has none. A drain says how many pages it moved.
+// What a call that is not refused does. A node is named by its number in the job's map, FF where it has none. A drain says how many pages
+// it moved.
 #[derive(Clone, Copy, Debug, PartialEq, Eq)]
-pub enum Answer {
+pub enum Effect {
     Granted(AppNode, Page),
     Released(AppNode, Page),
     Done,
     Drained(u32),
-    Refused(Refusal),
 }
 
-// A number, or why there is none.
-#[derive(Clone, Copy)]
-pub enum Decision {
-    Accept(u64),
-    Refuse(Refusal),
-}
+// What a call answers.
+pub type Answer = Result<Effect, Refusal>;
 
-// How many nodes near(x) lists, and in how many rounds; or why it does not.
-#[derive(Clone, Copy)]
-pub enum Ordered {
-    Listed(u8, u32),
-    Refused(Refusal),
+// How many nodes near(x) lists, and in how many rounds.
+#[derive(Clone, Copy, Debug, PartialEq, Eq)]
+pub struct Listed {
+    pub nodes: u8,
+    pub rounds: u32,
 }
 
 // An answer in numbers: refusal 0 is none.
 #[repr(C)]
-#[derive(Clone, Copy)]
+#[derive(Clone, Copy, Debug, PartialEq, Eq)]
 pub struct Numbers {
     pub refusal: u8,
     pub node: u8,
@@ -142,7 +124,7 @@ pub struct Numbers {
 
 // A decision in numbers: refusal 0 is none, and the value is 0 on a refusal.
 #[repr(C)]
-#[derive(Clone, Copy)]
+#[derive(Clone, Copy, Debug, PartialEq, Eq)]
 pub struct Number {
     pub refusal: u8,
     pub value: u64,
@@ -150,7 +132,7 @@ pub struct Number {
 
 // What near(x) answers, in numbers: refusal 0 is none, and the others are 0 on a refusal.
 #[repr(C)]
-#[derive(Clone, Copy)]
+#[derive(Clone, Copy, Debug, PartialEq, Eq)]
 pub struct OrderNumbers {
     pub refusal: u8,
     pub nodes: u8,
@@ -159,18 +141,18 @@ pub struct OrderNumbers {
 
 // A part of the caller's bytes: 0 and 0 is an empty one.
 #[repr(C)]
-#[derive(Clone, Copy)]
+#[derive(Clone, Copy, Debug, PartialEq, Eq)]
 pub struct Part {
     pub start: usize,
     pub len: usize,
 }
 
-impl Refusal {
-    // The number of a refusal.
-    pub fn number(self) -> u8
-        ensures { result ≡ number_of self }
+// The number of a refusal.
+impl From<Refusal> for u8 {
+    fn from(why: Refusal) -> u8
+        ensures { result ≡ number_of why }
     {
-        match self {
+        match why {
             Refusal::BadTables => 1,
             Refusal::NoSuchJob => 2,
             Refusal::NoSuchCpu => 3,
@@ -192,65 +174,55 @@ impl Refusal {
     }
 }
 
-impl Numbers {
-    // These three numbers.
-    fn of(refusal: u8, node: u8, page: u32) -> Numbers
-        ensures { numbers_in result ≡ refusal ∷ node ∷ page ∷ [] }
+// "refusal, node or FF, .. page or FFFFFFFF"
+impl From<Answer> for Numbers {
+    #[tactic(auto, unfolding(crate::specs::Calls::numbers))]
+    fn from(answer: Answer) -> Numbers
+        ensures { numbers_in result ≡ numbers (answer_of answer) }
     {
+        let (refusal, node, page) = match answer {
+            Ok(Effect::Granted(node, page)) => (0, node.0, page.0),
+            Ok(Effect::Released(node, page)) => (0, node.0, page.0),
+            Ok(Effect::Done) => (0, NO_NODE, NO_PAGE),
+            Ok(Effect::Drained(moves)) => (0, NO_NODE, moves),
+            Err(why) => (u8::from(why), NO_NODE, NO_PAGE),
+        };
         Numbers {
-            refusal: refusal,
-            node: node,
-            page: page,
+            refusal,
+            node,
+            page,
         }
     }
 }
 
-impl Answer {
-    // "refusal, node or FF, .. page or FFFFFFFF"
-    pub fn numbers(self) -> Numbers
-        ensures { numbers_in result ≡ numbers (answer_of self) }
+// 0 and the number, or the number of the refusal and 0.
+impl From<Result<u64, Refusal>> for Number {
+    fn from(decision: Result<u64, Refusal>) -> Number
+        ensures { number_in result ≡ in_numbers (decision_of decision) }
     {
-        match self {
-            Answer::Granted(node, page) => Numbers::of(0, node.0, page.0),
-            Answer::Released(node, page) => Numbers::of(0, node.0, page.0),
-            Answer::Done => Numbers::of(0, NO_NODE, NO_PAGE),
-            Answer::Drained(moves) => Numbers::of(0, NO_NODE, moves),
-            Answer::Refused(why) => Numbers::of(why.number(), NO_NODE, NO_PAGE),
-        }
-    }
-}
-
-impl Decision {
-    // 0 and the number, or the number of the refusal and 0.
-    pub fn number(self) -> Number
-        ensures { number_in result ≡ in_numbers (decision_of self) }
-    {
-        match self {
-            Decision::Accept(value) => Number {
-                refusal: 0,
-                value: value,
-            },
-            Decision::Refuse(why) => Number {
-                refusal: why.number(),
+        match decision {
+            Ok(value) => Number { refusal: 0, value },
+            Err(why) => Number {
+                refusal: u8::from(why),
                 value: 0,
             },
         }
     }
 }
 
-impl Ordered {
-    // 0 and both numbers, or the number of the refusal, 0 and 0.
-    pub fn numbers(self) -> OrderNumbers
-        ensures { order_numbers_in result ≡ order_numbers (ordered_of self) }
+// 0 and both numbers, or the number of the refusal, 0 and 0.
+impl From<Result<Listed, Refusal>> for OrderNumbers {
+    fn from(order: Result<Listed, Refusal>) -> OrderNumbers
+        ensures { order_numbers_in result ≡ order_numbers (ordered_of order) }
     {
-        match self {
-            Ordered::Listed(nodes, rounds) => OrderNumbers {
+        match order {
+            Ok(Listed { nodes, rounds }) => OrderNumbers {
                 refusal: 0,
-                nodes: nodes,
-                rounds: rounds,
+                nodes,
+                rounds,
             },
-            Ordered::Refused(why) => OrderNumbers {
-                refusal: why.number(),
+            Err(why) => OrderNumbers {
+                refusal: u8::from(why),
                 nodes: 0,
                 rounds: 0,
             },

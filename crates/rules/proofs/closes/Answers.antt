@@ -1,11 +1,12 @@
--- `closes` meets its contract: the last of some places is the entry at one below their number.
+-- `closes` meets its contract: by the last place, where there is one.
 -- Assumes nothing.
-use borrow.Author.Rules.{rules}
-use Rattle.rules.proofs.Closing.{no_close, close_before}
+use mathlib.Core.Path.{ap, sym, ◌∙◌}
+use Rattle.std.specs.Option.{option_copied}
+use Rattle.rules.proofs.Closing.{close_last, close_none}
 use Rattle.rules.proofs.closes.Goals as goal
 
-pub returns-then-len-eq0 : goal.returns-then-len-eq0
-returns-then-len-eq0 c = no_close _ _ c.if-len-eq0.true
+pub returns-in-Some : goal.returns-in-Some
+returns-in-Some c = close_last _ _ (ap option_copied (sym c.in-Some.is) ∙ c.last.ensures.value)
 
-pub returns : goal.returns
-returns c = close_before _ _ c.if-len-eq0.false (search rules)
+pub returns-in-None : goal.returns-in-None
+returns-in-None c = close_none _ (ap option_copied (sym c.in-None.is) ∙ c.last.ensures.value)
