@@ -11,23 +11,16 @@ ghost use Rattle.nodemask.specs.Ranks.{wrapped, ranks_in, ranked_in};
 
 use rules::{MOST_NODES, SysNode};
 
-#[derive(Clone, Copy)]
+#[derive(Clone, Copy, Debug, PartialEq, Eq)]
 pub struct Mask(pub u64);
 
 // The rank of a node in a set: how many nodes of the set are below it.
-#[derive(Clone, Copy)]
+#[derive(Clone, Copy, Debug, PartialEq, Eq)]
 pub struct Rank(pub u32);
 
 // A set of ranks: bit r stands for rank r.
-#[derive(Clone, Copy)]
+#[derive(Clone, Copy, Debug, PartialEq, Eq)]
 pub struct Ranks(pub u64);
-
-// The node that a search came to, if there is one.
-#[derive(Clone, Copy)]
-pub enum Found {
-    At(SysNode),
-    Nothing,
-}
 
 // "N nodes, 1 to 64": a mask has a bit for each.
 pub fn nodes_ok(nodes: usize) -> bool
@@ -119,7 +112,7 @@ impl Mask {
     pub fn is_empty(self) -> bool
         ensures { result ≡ is_empty self.0 }
     {
-        self.0 == Mask::EMPTY.0
+        self == Mask::EMPTY
     }
 
     // All nodes of this mask are in the other.
@@ -186,20 +179,20 @@ impl Mask {
     }
 
     // Interleave's target: the first node from the cursor field on, once round.
-    pub fn target(self, cursor: u8) -> Found
+    pub fn target(self, cursor: u8) -> Option<SysNode>
         requires { cursor ≤ most_nodes }
         ensures { found_node result ≡ target self.0 cursor }
     {
         if self.is_empty() {
-            return Found::Nothing;
+            return None;
         }
         if (cursor as usize) < MOST_NODES {
             let above = self.0 >> cursor;
             if above != 0 {
-                return Found::At(SysNode(cursor + (u64::trailing_zeros(above) as u8)));
+                return Some(SysNode(cursor + (u64::trailing_zeros(above) as u8)));
             }
         }
-        Found::At(SysNode(u64::trailing_zeros(self.0) as u8))
+        Some(SysNode(u64::trailing_zeros(self.0) as u8))
     }
 
     // The mask without its lowest node.

@@ -11,7 +11,7 @@ ghost use Rattle.pages.specs.Colours.{is_free, free_from, free_of, pick_of, Held
 use rules::{Page, lower};
 
 // How far a page stands from the first page of its part.
-#[derive(Clone, Copy)]
+#[derive(Clone, Copy, Debug, PartialEq, Eq, PartialOrd, Ord)]
 pub struct Offset(pub usize);
 
 impl Offset {
@@ -22,13 +22,6 @@ impl Offset {
     {
         Page(first.0 + (self.0 as u32))
     }
-}
-
-// Where the lowest free page of a part stands.
-#[derive(Clone, Copy)]
-pub enum Found {
-    At(Offset),
-    Full,
 }
 
 // Whether a byte is 0. There is no early exit, so that it is compiled to vectors.
@@ -109,12 +102,12 @@ fn is_free(part: &[u8], at: usize) -> bool
 }
 
 // The lowest free page from an index on.
-fn first_free(part: &[u8], from: usize) -> Found
+fn first_free(part: &[u8], from: usize) -> Option<Offset>
     requires { from ≤ length part.now }
     ensures { offset_of result ≡ shift from (first_zero (drop from part.now)) }
 {
     if is_free(part, from) {
-        return Found::At(Offset(from));
+        return Some(Offset(from));
     }
     let wide = skip(part, from, 128);
     let narrow = skip(part, wide, 16);
@@ -123,11 +116,11 @@ fn first_free(part: &[u8], from: usize) -> Found
         let end = block_end(part.len(), i, 16);
         let at = i + lowest_zero(&part[i..end]);
         if at < end {
-            return Found::At(Offset(at));
+            return Some(Offset(at));
         }
         i = end;
     }
-    Found::Full
+    None
 }
 
 // Has the part a free page?
@@ -136,8 +129,8 @@ pub fn has_free(part: &[u8]) -> bool
 {
     let found = first_free(part, 0);
     match found {
-        Found::At(_) => true,
-        Found::Full => false,
+        Some(_) => true,
+        None => false,
     }
 }
 
@@ -180,14 +173,14 @@ pub fn count_free(part: &[u8]) -> usize
 }
 
 // The lowest free page, given the lowest from an index on.
-fn lowest_free(part: &[u8], from: usize, ahead: Found) -> Found
+fn lowest_free(part: &[u8], from: usize, ahead: Option<Offset>) -> Option<Offset>
     requires { (from ≤ length part.now) × (offset_of ahead ≡ shift from (first_zero (drop from part.now))) }
     ensures { offset_of result ≡ first_zero part.now }
 {
     let behind = first_free(&part[0..from], 0);
     match behind {
-        Found::At(i) => Found::At(i),
-        Found::Full => ahead,
+        Some(i) => Some(i),
+        None => ahead,
     }
 }
 
@@ -261,7 +254,7 @@ fn skip_masked(part: &[u8], from: usize, mask: &[u8; 16]) -> usize
 }
 
 // The lowest free page of the colour, from an index on.
-fn first_coloured(part: &[u8], from: usize, colour: usize) -> Found
+fn first_coloured(part: &[u8], from: usize, colour: usize) -> Option<Offset>
     requires { (from ≤ length part.now) × (from % 4 ≡ 0) × (colour < 4) }
     ensures { offset_of result ≡ first (free_of colour from part.now) }
 {
@@ -270,11 +263,11 @@ fn first_coloured(part: &[u8], from: usize, colour: usize) -> Found
     let mut at = start + colour;
     while at < part.len() {
         if part[at] == 0 {
-            return Found::At(Offset(at));
+            return Some(Offset(at));
         }
         at += 4;
     }
-    Found::Full
+    None
 }
 
 // The first index of the colour from an index on.
@@ -286,45 +279,45 @@ fn next_of(from: usize, colour: usize) -> usize
 }
 
 // The page that a job of the colour gets. Pages of the colour before `from` are held.
-fn choose(part: &[u8], from: usize, colour: usize) -> Found
+fn choose(part: &[u8], from: usize, colour: usize) -> Option<Offset>
     requires { (from ≤ length part.now) × (colour < 4) × HeldBefore colour from part.now }
     ensures { offset_of result ≡ pick_of colour part.now }
 {
     let next = next_of(from, colour);
     if is_free(part, next) {
-        return Found::At(Offset(next));
+        return Some(Offset(next));
     }
     let ahead = first_free(part, from);
     match ahead {
-        Found::At(b) => {
+        Some(b) => {
             let near = next_of(b.0, colour);
             if is_free(part, near) {
-                return Found::At(Offset(near));
+                return Some(Offset(near));
             }
             let group = b.0 - b.0 % 4;
             let coloured = first_coloured(part, group, colour);
             match coloured {
-                Found::At(i) => Found::At(i),
-                Found::Full => lowest_free(part, from, ahead),
+                Some(i) => Some(i),
+                None => lowest_free(part, from, ahead),
             }
         }
-        Found::Full => lowest_free(part, from, ahead),
+        None => lowest_free(part, from, ahead),
     }
 }
 
 // Marks the page that a job of the colour gets. Pages of the colour before `from` are held.
-pub fn pick(part: &mut [u8], from: usize, colour: usize, holder: u8) -> Found
+pub fn pick(part: &mut [u8], from: usize, colour: usize, holder: u8) -> Option<Offset>
     requires { (from ≤ length part.old) × (colour < 4) × HeldBefore colour from part.old }
     ensures answer { offset_of result ≡ pick_of colour part.old }
     ensures table { part.new ≡ mark part.old (pick_of colour part.old) holder }
 {
     let page = choose(part, from, colour);
     match page {
-        Found::At(i) => {
+        Some(i) => {
             let at = i.0;
             part[at] = holder;
-            Found::At(i)
+            Some(i)
         }
-        Found::Full => Found::Full,
+        None => None,
     }
 }

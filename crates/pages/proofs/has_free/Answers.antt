@@ -10,12 +10,12 @@ use Rattle.pages.proofs.Colours.{zero_whole}
 use Rattle.pages.proofs.Part.{some_free, none_free}
 use Rattle.pages.proofs.has_free.Goals as goal
 
-pub returns-in-At : goal.returns-in-At
-returns-in-At c = let found : first (free_from 0 c.args.part.now) ≡ offset_of c.first_free-found.result = sym
+pub returns-in-Some : goal.returns-in-Some
+returns-in-Some c = let found : first (free_from 0 c.args.part.now) ≡ offset_of c.first_free-found.result = sym
     (c.first_free-found.ensures ∙ shift_zero _ ∙ zero_whole c.args.part.now) in
-    some_free _ (found ∙ ap offset_of c.in-At.is)
+    some_free _ (found ∙ ap offset_of c.in-Some.is)
 
-pub returns-in-Full : goal.returns-in-Full
-returns-in-Full c = let found : first (free_from 0 c.args.part.now) ≡ offset_of c.first_free-found.result = sym
+pub returns-in-None : goal.returns-in-None
+returns-in-None c = let found : first (free_from 0 c.args.part.now) ≡ offset_of c.first_free-found.result = sym
     (c.first_free-found.ensures ∙ shift_zero _ ∙ zero_whole c.args.part.now) in
-    none_free _ (found ∙ ap offset_of c.in-Full.is)
+    none_free _ (found ∙ ap offset_of c.in-None.is)

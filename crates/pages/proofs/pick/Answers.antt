@@ -9,5 +9,5 @@ use Rattle.pages.proofs.Picked.{pick_within}
 use Rattle.pages.proofs.pick.Goals as goal
 
 pub bounds-part-at : goal.bounds-part-at
-bounds-part-at c = let chosen : pick_of c.args.colour c.args.part.now ≡ some c.in-At.i.0 = sym c.choose-page.ensures ∙ ap offset_of c.in-At.is in
+bounds-part-at c = let chosen : pick_of c.args.colour c.args.part.now ≡ some c.in-Some.i.0 = sym c.choose-page.ensures ∙ ap offset_of c.in-Some.is in
     pick_within c.args.colour c.args.part.now _ chosen
