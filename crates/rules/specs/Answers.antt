@@ -6,7 +6,7 @@ use Rattle.rules.specs.declared.Refusal.TheVariants.{NothingAllowed, NoRoom, Not
 use Rattle.rules.specs.declared.Refusal.TheVariants.{DamagedJournal, WrongCount, BadMap, BadNote, NowhereToGo}
 use Rattle.rules.specs.declared.Effect.{Effect}
 use Rattle.rules.specs.declared.Effect.TheVariants.{Granted, Released, Done, Drained}
-use Rattle.rules.specs.declared.Listed.{Listed}
+use Rattle.rules.specs.declared.NearCount.{NearCount}
 use Rattle.rules.specs.declared.Numbers.{Numbers}
 use Rattle.rules.specs.declared.OrderNumbers.{OrderNumbers}
 use Rattle.rules.specs.declared.Number.{Number}
@@ -67,7 +67,7 @@ abbrev pub part_of : Part → LawPart
 part_of p = part_at p.start p.len
 
 -- how many nodes near(x) lists and in how many rounds, or "its number alone"
-abbrev pub ordered_of : Result Listed Refusal → LawDecision Order
+abbrev pub ordered_of : Result NearCount Refusal → LawDecision Order
 ordered_of (Ok listed) = accept (ordered listed.nodes listed.rounds)
 ordered_of (Err r) = refuse (number_of r)
 

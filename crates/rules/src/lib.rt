@@ -2,7 +2,7 @@
 
 #![tactic(auto)]
 
-ghost use Rattle.std.specs.Prelude.{◌≡◌, ◌++◌, ℕ, ◌≤◌, length, take, drop, replicate};
+ghost use Rattle.std.specs.Prelude.{◌≡◌, ◌++◌, ℕ, min, ◌≤◌, length, take, drop, replicate};
 ghost use Rattle.rules.specs.Calls.{numbers};
 ghost use Rattle.rules.specs.Records.{closes};
 ghost use Rattle.rules.specs.Answers.{number_of, answer_of, decision_of, numbers_in, in_numbers, number_in, ordered_of, order_numbers, order_numbers_in};
@@ -40,6 +40,13 @@ pub const NO_NODE: u8 = 0xFF;
 pub const CLOSING_PLACE: u8 = 0xFF;
 
 const NO_PAGE: u32 = 0xFFFF_FFFF;
+
+// The lower of two bytes: with no early exit, a pass that keeps the lowest compiles to vectors.
+pub fn lower(a: u8, b: u8) -> u8
+    ensures { result ≡ min a b }
+{
+    a.min(b)
+}
 
 // M-104: "a 255 in the last place": do the places end in it?
 pub fn closes(places: &[u8]) -> bool
@@ -108,7 +115,7 @@ pub type Answer = Result<Effect, Refusal>;
 
 // How many nodes near(x) lists, and in how many rounds.
 #[derive(Clone, Copy, Debug, PartialEq, Eq)]
-pub struct Listed {
+pub struct NearCount {
     pub nodes: u8,
     pub rounds: u32,
 }
@@ -211,12 +218,12 @@ impl From<Result<u64, Refusal>> for Number {
 }
 
 // 0 and both numbers, or the number of the refusal, 0 and 0.
-impl From<Result<Listed, Refusal>> for OrderNumbers {
-    fn from(order: Result<Listed, Refusal>) -> OrderNumbers
+impl From<Result<NearCount, Refusal>> for OrderNumbers {
+    fn from(order: Result<NearCount, Refusal>) -> OrderNumbers
         ensures { order_numbers_in result ≡ order_numbers (ordered_of order) }
     {
         match order {
-            Ok(Listed { nodes, rounds }) => OrderNumbers {
+            Ok(NearCount { nodes, rounds }) => OrderNumbers {
                 refusal: 0,
                 nodes,
                 rounds,
