@@ -3,7 +3,7 @@
 use Prim.Native.Nat.{ℕ, ◌+◌, ◌≤◌, ◌<◌}
 use mathlib.Core.Path.{◌≡◌, refl}
 use mathlib.Core.Bool.{Bool, true, false, ◌&&◌, ◌||◌, and-false}
-use mathlib.Core.Logic.{⊎_elim}
+use mathlib.Core.Logic.{◌≢◌, ⊎_elim}
 use mathlib.Core.List.{List, [], ◌∷◌}
 use native.Mathlib.Numerals.{add-one}
 use native.Mathlib.Omega.{arith}
@@ -46,8 +46,14 @@ module _ (n least : ℕ) (list : List ℕ) (i : ℕ) where
   unfolding keeps rising all
   keeps_end h = rw (drop_of_length-le list h)
 
--- "one or more, rising": the test of the whole list
-pub keeps_whole : (nodes list : List ℕ) {n : ℕ} → n ≡ length nodes → keeps_of nodes list ≡ (ltb 0 (length list) && keeps n 0 list)
+-- "one or more": no numbers are bad
+pub keeps_none : (nodes list : List ℕ) → length list ≡ 0 → keeps_of nodes list ≡ false
+unfolding keeps_of is_nil
+keeps_none nodes [] e = refl
+keeps_none nodes (a ∷ list) e = absurd (omega arith)
+
+-- the test of one number or more
+pub keeps_some : (nodes list : List ℕ) {n : ℕ} → n ≡ length nodes → length list ≢ 0 → keeps_of nodes list ≡ keeps n 0 list
 unfolding keeps_of keeps is_nil
-keeps_whole nodes [] e = refl
-keeps_whole nodes (a ∷ list) e = rw (e, lt-ltb 0 (length (a ∷ list)) (omega arith))
+keeps_some nodes [] e d = absurd (d refl)
+keeps_some nodes (a ∷ list) e d = rw e refl

@@ -10,19 +10,11 @@ use machine;
 use nodemask::Mask;
 use rules::{MAP_BYTES, NO_NODE, SysNode};
 
-// A job's map, judged: the set of its nodes and how many they are; or a bad one.
+// What a good map is judged to be: the set of its nodes and how many they are.
 #[derive(Clone, Copy)]
-pub enum Judged {
-    Good(Mask, u8),
-    Bad,
-}
-
-// The bytes of a new map, where the list is good; else they stand for nothing. The array stands beside the verdict: the prover covers no
-// enum that holds one.
-#[derive(Clone, Copy)]
-pub struct NewMap {
-    pub good: bool,
-    pub bytes: [u8; MAP_BYTES],
+pub struct Judged {
+    pub set: Mask,
+    pub len: u8,
 }
 
 // How many bytes are not FF: no early exit, so that it is compiled to vectors.
@@ -69,22 +61,25 @@ fn set_of(list: &[u8]) -> Mask
 }
 
 // "a list of 1 to 64 different system nodes, entry a being application node a, then FF to the end": of the bytes that are not FF there are
-// as many as the first bytes that are nodes of the machine, and as many different ones.
-pub fn judge(nodes: usize, map: &[u8]) -> Judged
+// as many as the first bytes that are nodes of the machine, and as many different ones. None where the map is bad.
+pub fn judge(nodes: usize, map: &[u8]) -> Option<Judged>
     requires { (1 ≤ nodes) × (nodes ≤ most_nodes) × (length map.now ≡ map_size) }
     ensures { Judges nodes map.now result }
 {
     let len = used(map);
     let list = &map[..len];
     if (len == 0) | !machine::all_below(list, nodes) {
-        return Judged::Bad;
+        return None;
     }
     let set = set_of(list);
     let different = set.size() as usize == len;
-    if different {
-        return Judged::Good(set, len as u8);
+    if !different {
+        return None;
     }
-    Judged::Bad
+    Some(Judged {
+        set,
+        len: len as u8,
+    })
 }
 
 // The bytes of a map of some nodes, filled up with FF: the first sixty-four of a longer list.
@@ -97,18 +92,15 @@ pub fn filled(list: &[u8]) -> [u8; MAP_BYTES]
 }
 
 // The administrator's list: "any good list of system nodes". A list is good if its bytes, filled up with FF, are a good map with as many
-// nodes as the list has entries.
-pub fn listed(nodes: usize, list: &[u8]) -> NewMap
+// nodes as the list has entries. None where the list is bad.
+pub fn listed(nodes: usize, list: &[u8]) -> Option<[u8; MAP_BYTES]>
     requires { (1 ≤ nodes) × (nodes ≤ most_nodes) }
     ensures { IsMade (good_nodes nodes list.now) (bytes_for list.now) result }
 {
     let bytes = filled(list);
-    let judged = judge(nodes, &bytes);
-    match judged {
-        Judged::Good(_, len) => NewMap {
-            good: len as usize == list.len(),
-            bytes,
-        },
-        Judged::Bad => NewMap { good: false, bytes },
+    let judged = judge(nodes, &bytes)?;
+    if judged.len as usize != list.len() {
+        return None;
     }
+    Some(bytes)
 }

@@ -8,7 +8,6 @@ ghost use Rattle.rules.specs.Maps.{map_size, map_bytes, nodes_in, bytes_for, sys
 ghost use Rattle.rules.specs.Records.{places_per_job};
 ghost use Rattle.maps.specs.Judging.{IsMade};
 
-use super::judging::NewMap;
 use nodemask::Mask;
 use rules::{AppNode, MAP_BYTES, NO_NODE, PLACES_PER_JOB, SysNode};
 
@@ -112,29 +111,26 @@ pub fn turned_places(
 
 // The tenant's list: "it lists the application nodes it keeps of a good map, one or more, rising, else 15". The entries kept, then FF to
 // the end. No number that may come is below `least`.
-pub fn keep(bytes: &[u8], len: u8, list: &[u8]) -> NewMap
+pub fn keep(bytes: &[u8], len: u8, list: &[u8]) -> Option<[u8; MAP_BYTES]>
     requires { (length bytes.now ≡ map_size) × (len ≡ length (nodes_in bytes.now)) }
     ensures { IsMade (keeps_of (nodes_in bytes.now) list.now) (bytes_for (map (system_node (nodes_in bytes.now)) list.now)) result }
 {
+    if list.is_empty() {
+        return None;
+    }
     let mut out = [NO_NODE; MAP_BYTES];
     let mut least: u8 = 0;
     let mut i: usize = 0;
     while i < list.len() {
         let a = list[i];
         if (a < least) | (len <= a) {
-            return NewMap {
-                good: false,
-                bytes: out,
-            };
+            return None;
         }
         out[i] = node_at(bytes, AppNode(a)).0;
         least = a + 1;
         i += 1;
     }
-    NewMap {
-        good: 0 < i,
-        bytes: out,
-    }
+    Some(out)
 }
 
 // Another map for a job.

@@ -1,7 +1,6 @@
 -- `filled` copies a list's entries and leaves FF after them.
 -- Assumes nothing.
 use mathlib.Core.Path.{refl}
-use borrow.Author.Rules.{rules}
 use Rattle.maps.proofs.judging.filled.Goals as goal
 
 pub returns : goal.returns

@@ -1,15 +1,10 @@
 -- `used` meets its contract. The loop: of the bytes before this one some are FF, and the others are counted.
 -- Assumes nothing.
-use Prim.Native.Nat.{◌+◌, ◌-◌, ◌≤◌, ◌<◌}
-use mathlib.Core.Path.{◌≡◌, ap}
-use mathlib.Core.Logic.{⊎_elim}
+use Prim.Native.Nat.{◌<◌}
 use native.Mathlib.Omega.{arith}
 use borrow.Author.Rules.{rules}
-use borrow.Author.Tests.{eqb-true, eqb-false}
-use lib.ListN.{length, take}
-use lib.Seq.{take_all}
+use lib.ListN.{length}
 use Rattle.rules.specs.Basics.{keep}
-use Rattle.maps.specs.Judging.{is_node}
 use Rattle.maps.proofs.GoodMaps.{used_ff, used_node}
 use Rattle.maps.proofs.judging.used.Goals as goal
 use Rattle.maps.proofs.judging.used.Goals.{then-end, else-end}

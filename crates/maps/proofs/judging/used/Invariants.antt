@@ -1,16 +1,10 @@
 -- `used` meets its contract. The loop: of the bytes before this one some are FF, and the others are counted.
 -- Assumes nothing.
-use Prim.Native.Nat.{◌+◌, ◌-◌, ◌≤◌, ◌<◌}
-use mathlib.Core.Path.{◌≡◌, ap}
-use mathlib.Core.Logic.{⊎_elim}
-use native.Mathlib.Omega.{arith}
-use borrow.Author.Rules.{rules}
-use borrow.Author.Tests.{eqb-true, eqb-false}
+use Prim.Native.Nat.{◌+◌, ◌-◌, ◌≤◌}
+use mathlib.Core.Path.{◌≡◌}
 use lib.ListN.{length, take}
-use lib.Seq.{take_all}
 use Rattle.rules.specs.Basics.{keep}
 use Rattle.maps.specs.Judging.{is_node}
-use Rattle.maps.proofs.GoodMaps.{used_ff, used_node}
 use Rattle.maps.proofs.judging.used.Given as goal
 
 abbrev pub invariant-loop-i : goal.invariant-loop-i

@@ -1,32 +1,33 @@
 -- `keep` meets its contract. The loop: the entries of the numbers before `i` are written, FF follows, and the numbers from `i` on decide.
 -- Assumes nothing.
-use Prim.Native.Nat.{◌-◌, ◌≤◌, ◌<◌}
-use mathlib.Core.Path.{◌≡◌, refl, sym, ap, ◌∙◌}
-use mathlib.Core.Bool.{Bool, ◌&&◌, true≢false, and-false, and-true}
+use Prim.Native.Nat.{◌≤◌, ◌<◌}
+use mathlib.Core.Path.{◌≡◌, refl, sym, ◌∙◌}
 use mathlib.Core.Logic.{inl}
 use mathlib.Core.List.{map}
 use native.Mathlib.Omega.{arith}
 use borrow.Author.Rules.{rules}
-use borrow.Author.Tests.{ltb-false, leb-false}
+use borrow.Author.Tests.{eqb-true, eqb-false, ltb-false, leb-false}
 use lib.Dec.{ltb}
-use lib.ListN.{length, get_or, drop, length-map}
-use Rattle.rules.specs.Maps.{nodes_in, bytes_for, system_node, keeps_of}
+use lib.ListN.{length, get_or, length-map}
+use Rattle.rules.specs.Maps.{nodes_in, bytes_for, system_node}
 use Rattle.rules.proofs.Lists.{either_false}
-use Rattle.rules.proofs.Filled.{filled, fill_none, fill_end, fill_short}
-use Rattle.maps.proofs.Keeping.{keeps, keeps_bad, keeps_next, keeps_end, keeps_whole}
+use Rattle.rules.proofs.Filled.{fill_none, fill_end, fill_short}
+use Rattle.maps.proofs.Keeping.{keeps_bad, keeps_next, keeps_end, keeps_none, keeps_some}
 use Rattle.maps.proofs.MapNodes.{nodes_le, fill_node}
 use Rattle.maps.proofs.turning.keep.Goals as goal
 
 pub loop-i-init : goal.loop-i-init
 loop-i-init c = (search rules, search rules, search rules, fill_none 64 255 _, refl)
 
+pub returns-then-is_empty : goal.returns-then-is_empty
+returns-then-is_empty c =
+    keeps_none (nodes_in c.args.bytes.now) c.args.list.now (eqb-true (length c.args.list.now) 0 (sym c.if-is_empty.ensures))
+
 pub returns-then-a-least : goal.returns-then-a-least
-returns-then-a-least c = let whole : (t : Bool) → keeps c.args.len c.loop-i.least (drop c.loop-i.i c.args.list.now) ≡ t → keeps_of
-    (nodes_in c.args.bytes.now) c.args.list.now ≡ (ltb 0 (length c.args.list.now) && t) = λ t e. keeps_whole (nodes_in c.args.bytes.now)
-    c.args.list.now c.requires.1 ∙ ap (λ (t : Bool). ltb 0 (length c.args.list.now) && t) (c.loop-i.invariant.4 ∙ e) in
+returns-then-a-least c =
     let bad = keeps_bad c.args.len c.loop-i.least c.args.list.now c.loop-i.i c.loop-i-test.true c.if-a-least.true in
-    let none = whole _ bad ∙ and-false (ltb 0 (length c.args.list.now)) in
-    (sym none, λ e. absurd (true≢false (sym e ∙ none)))
+    keeps_some (nodes_in c.args.bytes.now) c.args.list.now c.requires.1 (eqb-false (length c.args.list.now) 0 (sym c.if-is_empty.ensures))
+    ∙ c.loop-i.invariant.4 ∙ bad
 
 pub bounds-out-i : goal.bounds-out-i
 bounds-out-i c = let may-come : (c.loop-i.least ≤ get_or c.args.list.now c.loop-i.i 0) × (get_or c.args.list.now c.loop-i.i 0 < c.args.len) ×
@@ -50,14 +51,11 @@ loop-i-preserved c = let may-come : (c.loop-i.least ≤ get_or c.args.list.now c
 
 pub returns : goal.returns
 unfolding bytes_for
-returns c = let whole : (t : Bool) → keeps c.args.len c.loop-i.least (drop c.loop-i.i c.args.list.now) ≡ t → keeps_of (nodes_in c.args.bytes.now)
-    c.args.list.now ≡ (ltb 0 (length c.args.list.now) && t) = λ t e. keeps_whole (nodes_in c.args.bytes.now) c.args.list.now c.requires.1 ∙ ap
-    (λ (t : Bool). ltb 0 (length c.args.list.now) && t) (c.loop-i.invariant.4 ∙ e) in
-    let all : c.loop-i.i ≡ length c.args.list.now = omega arith in
+returns c =
     let kept = map (system_node (nodes_in c.args.bytes.now)) c.args.list.now in
     let long : length kept ≡ length c.args.list.now = length-map c.args.list.now (system_node (nodes_in c.args.bytes.now)) in
-    let few : c.loop-i.i ≤ 64 = omega (arith, nodes_le c.args.bytes.now) in
-    let good = keeps_end c.args.len c.loop-i.least c.args.list.now c.loop-i.i c.loop-i-test.false in (
-      ap (ltb 0) all ∙ sym (whole _ good ∙ and-true _),
-      λ e. c.loop-i.invariant.3 ∙ fill_end 64 255 kept c.loop-i.i (omega arith) few (inl (omega arith)) ∙ fill_short 64 255 kept (omega arith),
+    let few : c.loop-i.i ≤ 64 = omega (arith, nodes_le c.args.bytes.now) in (
+      keeps_some (nodes_in c.args.bytes.now) c.args.list.now c.requires.1 (eqb-false (length c.args.list.now) 0 (sym c.if-is_empty.ensures))
+          ∙ c.loop-i.invariant.4 ∙ keeps_end c.args.len c.loop-i.least c.args.list.now c.loop-i.i c.loop-i-test.false,
+      c.loop-i.invariant.3 ∙ fill_end 64 255 kept c.loop-i.i (omega arith) few (inl (omega arith)) ∙ fill_short 64 255 kept (omega arith),
     )

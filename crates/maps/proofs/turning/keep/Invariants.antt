@@ -1,20 +1,12 @@
 -- `keep` meets its contract. The loop: the entries of the numbers before `i` are written, FF follows, and the numbers from `i` on decide.
 -- Assumes nothing.
-use Prim.Native.Nat.{◌-◌, ◌≤◌, ◌<◌}
-use mathlib.Core.Path.{◌≡◌, refl, sym, ap, ◌∙◌}
-use mathlib.Core.Bool.{Bool, ◌&&◌, true≢false, and-false, and-true}
-use mathlib.Core.Logic.{inl}
+use Prim.Native.Nat.{◌-◌, ◌≤◌}
+use mathlib.Core.Path.{◌≡◌}
 use mathlib.Core.List.{map}
-use native.Mathlib.Omega.{arith}
-use borrow.Author.Rules.{rules}
-use borrow.Author.Tests.{ltb-false, leb-false}
-use lib.Dec.{ltb}
-use lib.ListN.{length, get_or, drop, length-map}
-use Rattle.rules.specs.Maps.{nodes_in, bytes_for, system_node, keeps_of}
-use Rattle.rules.proofs.Lists.{either_false}
-use Rattle.rules.proofs.Filled.{filled, fill_none, fill_end, fill_short}
-use Rattle.maps.proofs.Keeping.{keeps, keeps_bad, keeps_next, keeps_end, keeps_whole}
-use Rattle.maps.proofs.MapNodes.{nodes_le, fill_node}
+use lib.ListN.{length, drop}
+use Rattle.rules.specs.Maps.{nodes_in, system_node}
+use Rattle.rules.proofs.Filled.{filled}
+use Rattle.maps.proofs.Keeping.{keeps}
 use Rattle.maps.proofs.turning.keep.Given as goal
 
 abbrev pub invariant-loop-i : goal.invariant-loop-i

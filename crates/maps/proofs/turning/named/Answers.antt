@@ -1,11 +1,7 @@
 -- `named` meets its contract. The loop's invariant: the node's entry is that among the bytes from `a` on.
 -- Assumes nothing.
-use Prim.Native.Nat.{◌-◌, ◌≤◌}
-use mathlib.Core.Path.{◌≡◌, refl, sym, ◌∙◌}
-use native.Mathlib.Omega.{arith}
+use mathlib.Core.Path.{sym, ◌∙◌}
 use borrow.Author.Rules.{rules}
-use lib.ListN.{length, drop}
-use Rattle.rules.specs.Maps.{nodes_in, entry_from}
 use Rattle.maps.proofs.MapNodes.{named_end, named_here, named_next, named_past}
 use Rattle.maps.proofs.turning.named.Goals as goal
 

@@ -1,12 +1,9 @@
 -- `named` meets its contract. The loop's invariant: the node's entry is that among the bytes from `a` on.
 -- Assumes nothing.
 use Prim.Native.Nat.{◌-◌, ◌≤◌}
-use mathlib.Core.Path.{◌≡◌, refl, sym, ◌∙◌}
-use native.Mathlib.Omega.{arith}
-use borrow.Author.Rules.{rules}
+use mathlib.Core.Path.{◌≡◌}
 use lib.ListN.{length, drop}
 use Rattle.rules.specs.Maps.{nodes_in, entry_from}
-use Rattle.maps.proofs.MapNodes.{named_end, named_here, named_next, named_past}
 use Rattle.maps.proofs.turning.named.Given as goal
 
 abbrev pub invariant-loop-a : goal.invariant-loop-a

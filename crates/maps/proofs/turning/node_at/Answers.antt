@@ -1,7 +1,6 @@
 -- `node_at` reads an entry of a map.
 -- Assumes nothing.
 use native.Mathlib.Omega.{arith}
-use borrow.Author.Rules.{rules}
 use Rattle.maps.proofs.MapNodes.{nodes_le, node_byte}
 use Rattle.maps.proofs.turning.node_at.Goals as goal
 

@@ -1,15 +1,11 @@
 -- `places_within` meets its contract: the tests so far and those of the places to come are the tests of all of them.
 -- Assumes nothing.
 use Prim.Native.Nat.{◌-◌, ◌≤◌}
-use mathlib.Core.Path.{◌≡◌, refl, sym, ◌∙◌}
+use mathlib.Core.Path.{◌≡◌}
 use mathlib.Core.Bool.{◌&&◌}
-use native.Mathlib.Omega.{arith}
-use borrow.Author.Rules.{rules}
 use lib.Dec.{ltb}
 use lib.ListN.{length, take, drop}
-use lib.Seq.{length-take-le, get_or-take}
 use Rattle.rules.specs.Basics.{all}
-use Rattle.machine.proofs.Tables.{all_step, all_end}
 use Rattle.maps.proofs.turning.places_within.Given as goal
 
 abbrev pub invariant-loop-i : goal.invariant-loop-i

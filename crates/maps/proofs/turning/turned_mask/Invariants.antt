@@ -1,15 +1,9 @@
 -- `turned_mask` meets its contract. The loop's invariant: the mask has the nodes of the user's bits below `a`.
 -- Assumes nothing.
 use Prim.Native.Nat.{◌-◌, ◌≤◌}
-use mathlib.Core.Path.{◌≡◌, ap, ◌∙◌}
-use mathlib.Core.Logic.{⊎_elim}
-use native.Mathlib.Omega.{arith}
-use borrow.Author.Rules.{rules}
-use lib.ListN.{length}
+use mathlib.Core.Path.{◌≡◌}
 use Rattle.rules.specs.Masks.{image}
-use Rattle.rules.specs.Maps.{nodes_in, system_node, system_mask}
-use Rattle.rules.proofs.Maps.{entry_below}
-use Rattle.maps.proofs.MapNodes.{image_more, image_same}
+use Rattle.rules.specs.Maps.{nodes_in, system_node}
 use Rattle.maps.proofs.turning.turned_mask.Given as goal
 
 abbrev pub invariant-loop-a : goal.invariant-loop-a

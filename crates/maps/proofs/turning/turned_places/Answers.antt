@@ -1,6 +1,5 @@
 -- `turned_places` meets its contract. The loop's invariant: the nodes of the places before `i` are written, and zeros follow.
 -- Assumes nothing.
-use Prim.Native.Nat.{◌-◌, ◌≤◌}
 use mathlib.Core.Path.{◌≡◌, sym, ap, ◌∙◌}
 use mathlib.Core.Logic.{inl}
 use mathlib.Core.List.{map}
@@ -9,7 +8,7 @@ use borrow.Author.Rules.{rules}
 use lib.ListN.{length, get_or, take, length-map}
 use lib.Seq.{length-take-le, get_or-take}
 use Rattle.rules.specs.Maps.{nodes_in, system_node}
-use Rattle.rules.proofs.Filled.{filled, fill_none, fill_end}
+use Rattle.rules.proofs.Filled.{fill_none, fill_end}
 use Rattle.maps.proofs.MapNodes.{fill_node}
 use Rattle.maps.proofs.turning.turned_places.Goals as goal
 
