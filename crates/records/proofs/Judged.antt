@@ -19,10 +19,6 @@ use Rattle.rules.specs.Calls.{policy_fits, install_fits, rebind_fits, install_de
 use Rattle.rules.proofs.Lists.{both_true, ◌∈◌, all_true, true_all}
 use Rattle.rules.proofs.Maps.{map_nodes}
 use Rattle.rules.proofs.WellFormed.{mode_small, flag_small, few_places}
-use Rattle.nodemask.specs.declared.Mask.{Mask}
-use Rattle.maps.specs.declared.judging.Judged.{Judged}
-use Rattle.maps.specs.declared.judging.Judged.TheVariants.{Good, Bad}
-use Rattle.maps.specs.Judging.{Judges}
 use Rattle.records.specs.Jobs.{Numbers}
 use Rattle.records.specs.Installs.{install_tests}
 
@@ -46,15 +42,6 @@ pub install_judged : (n : ℕ) (t : Tables) (j : ℕ) → mapped_tables_ok n (le
     → is_mapped n t j ≡ true → (p : Policy) → install_decision n t j p ≡ install_tests n (map_of t j) (record_at t.records j) j p
 unfolding install_decision
 install_judged n t j tables job good p = rw (tables, job, good)
-
--- a map that is judged good is so, with the number of its nodes
-pub judged_good : (n : ℕ) (bytes : List ℕ) {r : Judged} {set : Mask} {len : ℕ} → Judges n bytes r → r ≡ Good set len
-    → (good_map n bytes ≡ true) × (len ≡ length (nodes_in bytes))
-judged_good n bytes h e = let g = rw e at h in (g.0, g.2)
-
--- and one that is judged bad is not
-pub judged_bad : (n : ℕ) (bytes : List ℕ) {r : Judged} → Judges n bytes r → r ≡ Bad → good_map n bytes ≡ false
-judged_bad n bytes h e = rw e at h
 
 -- the nodes of a good map are at most 64, and each is below 64
 pub good_small : (n : ℕ) (bytes : List ℕ) → n ≤ most_nodes → good_map n bytes ≡ true

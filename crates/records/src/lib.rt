@@ -13,11 +13,10 @@ ghost use Rattle.records.specs.Jobs.{Asks};
 ghost use Rattle.records.specs.Installs.{install_tests};
 
 use job::Job;
-use maps::judging::Judged;
 use maps::{judging, turning};
 use nodemask::Mask;
 use policy::AppPolicy;
-use rules::{Answer, Refusal};
+use rules::{Answer, Effect, Refusal};
 
 pub mod job;
 pub mod mapping;
@@ -40,24 +39,24 @@ fn install_mapped(
 {
     let old = table::load(jobs, job);
     if !old.well_formed(nodes) {
-        return Answer::Refused(Refusal::MalformedRecord);
+        return Err(Refusal::MalformedRecord);
     }
     if !policy.known() {
-        return Answer::Refused(Refusal::UnknownPolicy);
+        return Err(Refusal::UnknownPolicy);
     }
     let allowed = old.allowed;
     if allowed.is_empty() {
-        return Answer::Refused(Refusal::NothingAllowed);
+        return Err(Refusal::NothingAllowed);
     }
     if !policy.within(entries) {
-        return Answer::Refused(Refusal::DoesNotFit);
+        return Err(Refusal::DoesNotFit);
     }
     let turned = policy.turned(bytes, entries);
     if !turned.fits(nodes, allowed) {
-        return Answer::Refused(Refusal::DoesNotFit);
+        return Err(Refusal::DoesNotFit);
     }
     table::store(jobs, job, old.installed(turned));
-    Answer::Done
+    Ok(Effect::Done)
 }
 
 // Install on tables that are in order.
@@ -72,14 +71,13 @@ pub fn install_at(
     ensures { (t : Tables) (p : Asked) → Asks policy p → outcome (answer_of result) (with_jobs t jobs.new maps.now) ≡ on_install nodes (with_jobs t jobs.old maps.now) job p }
 {
     if !table::has_job(jobs.len(), job) {
-        return Answer::Refused(Refusal::NoSuchJob);
+        return Err(Refusal::NoSuchJob);
     }
     let bytes = turning::of_job(maps, job);
-    let judged = judging::judge(nodes, bytes);
-    match judged {
-        Judged::Good(_, entries) => install_mapped(nodes, jobs, bytes, entries, job, policy),
-        Judged::Bad => Answer::Refused(Refusal::BadMap),
-    }
+    let Some(map) = judging::judge(nodes, bytes) else {
+        return Err(Refusal::BadMap);
+    };
+    install_mapped(nodes, jobs, bytes, map.len, job, policy)
 }
 
 // Rebind on tables that are in order.
@@ -88,25 +86,25 @@ pub fn rebind_at(nodes: usize, jobs: &mut [u64], job: usize, allowed: u64) -> An
     ensures { (t : Tables) → outcome (answer_of result) (with_records t jobs.new) ≡ on_rebind nodes (with_records t jobs.old) job allowed }
 {
     if !table::has_job(jobs.len(), job) {
-        return Answer::Refused(Refusal::NoSuchJob);
+        return Err(Refusal::NoSuchJob);
     }
     let old = table::load(jobs, job);
     if !old.well_formed(nodes) {
-        return Answer::Refused(Refusal::MalformedRecord);
+        return Err(Refusal::MalformedRecord);
     }
     let new = Mask(allowed);
     if !new.below(nodes) {
-        return Answer::Refused(Refusal::DoesNotFit);
+        return Err(Refusal::DoesNotFit);
     }
     if new.is_empty() {
-        return Answer::Refused(Refusal::NothingAllowed);
+        return Err(Refusal::NothingAllowed);
     }
     let next = old.job().rebound(new).as_record();
     if next.effective.is_empty() & !(next.flag == 1) & !next.user.is_empty() {
-        return Answer::Refused(Refusal::NothingEffective);
+        return Err(Refusal::NothingEffective);
     }
     table::store(jobs, job, next);
-    Answer::Done
+    Ok(Effect::Done)
 }
 
 // Clear on tables that are in order.
@@ -115,10 +113,10 @@ pub fn clear_at(nodes: usize, jobs: &mut [u64], job: usize) -> Answer
     ensures { (t : Tables) → outcome (answer_of result) (with_records t jobs.new) ≡ on_clear nodes (with_records t jobs.old) job }
 {
     if !table::has_job(jobs.len(), job) {
-        return Answer::Refused(Refusal::NoSuchJob);
+        return Err(Refusal::NoSuchJob);
     }
     table::store(jobs, job, Job::fresh().as_record());
-    Answer::Done
+    Ok(Effect::Done)
 }
 
 // Install: a job's mode, flag, user mask or places, in the numbers of its map.
@@ -135,7 +133,7 @@ pub fn install(
     ensures { (t : Tables) → outcome (answer_of result) (with_jobs t jobs.new maps.now) ≡ on_install nodes (with_jobs t jobs.old maps.now) job (policy mode flag mask places.now) }
 {
     if !table::mapped_ok(nodes, jobs.len(), maps.len()) {
-        return Answer::Refused(Refusal::BadTables);
+        return Err(Refusal::BadTables);
     }
     let first = words::padded(places);
     let policy = AppPolicy {
@@ -153,7 +151,7 @@ pub fn rebind(nodes: usize, jobs: &mut [u64], job: usize, allowed: u64) -> Answe
     ensures { (t : Tables) → outcome (answer_of result) (with_records t jobs.new) ≡ on_rebind nodes (with_records t jobs.old) job allowed }
 {
     if !table::tables_ok(nodes, jobs.len()) {
-        return Answer::Refused(Refusal::BadTables);
+        return Err(Refusal::BadTables);
     }
     rebind_at(nodes, jobs, job, allowed)
 }
@@ -163,7 +161,7 @@ pub fn clear(nodes: usize, jobs: &mut [u64], job: usize) -> Answer
     ensures { (t : Tables) → outcome (answer_of result) (with_records t jobs.new) ≡ on_clear nodes (with_records t jobs.old) job }
 {
     if !table::tables_ok(nodes, jobs.len()) {
-        return Answer::Refused(Refusal::BadTables);
+        return Err(Refusal::BadTables);
     }
     clear_at(nodes, jobs, job)
 }

@@ -5,9 +5,8 @@ ghost use Rattle.rules.specs.Calls.{Tables, with_jobs, outcome, mapped_tables_ok
 ghost use Rattle.rules.specs.Answers.{answer_of};
 
 use super::table;
-use maps::judging::Judged;
 use maps::{judging, turning};
-use rules::{Answer, Refusal};
+use rules::{Answer, Effect, Refusal};
 
 // The tenant's call on tables that are in order.
 pub fn keep_at(nodes: usize, jobs: &[u64], maps: &mut [u8], job: usize, kept: &[u8]) -> Answer
@@ -15,21 +14,17 @@ pub fn keep_at(nodes: usize, jobs: &[u64], maps: &mut [u8], job: usize, kept: &[
     ensures { (t : Tables) → outcome (answer_of result) (with_jobs t jobs.now maps.new) ≡ on_keep nodes (with_jobs t jobs.now maps.old) job kept.now }
 {
     if !table::has_job(jobs.len(), job) {
-        return Answer::Refused(Refusal::NoSuchJob);
+        return Err(Refusal::NoSuchJob);
     }
-    let judged = judging::judge(nodes, turning::of_job(maps, job));
-    match judged {
-        Judged::Good(_, entries) => {
-            let new = turning::keep(turning::of_job(maps, job), entries, kept);
-            if !new.good {
-                return Answer::Refused(Refusal::BadMap);
-            }
-            let bytes = new.bytes;
-            turning::store(maps, job, bytes);
-            Answer::Done
-        }
-        Judged::Bad => Answer::Refused(Refusal::BadMap),
-    }
+    let bytes = turning::of_job(maps, job);
+    let Some(map) = judging::judge(nodes, bytes) else {
+        return Err(Refusal::BadMap);
+    };
+    let Some(new) = turning::keep(bytes, map.len, kept) else {
+        return Err(Refusal::BadMap);
+    };
+    turning::store(maps, job, new);
+    Ok(Effect::Done)
 }
 
 // The administrator's call on tables that are in order.
@@ -38,15 +33,13 @@ pub fn set_at(nodes: usize, jobs: &[u64], maps: &mut [u8], job: usize, list: &[u
     ensures { (t : Tables) → outcome (answer_of result) (with_jobs t jobs.now maps.new) ≡ on_set_map nodes (with_jobs t jobs.now maps.old) job list.now }
 {
     if !table::has_job(jobs.len(), job) {
-        return Answer::Refused(Refusal::NoSuchJob);
+        return Err(Refusal::NoSuchJob);
     }
-    let new = judging::listed(nodes, list);
-    if !new.good {
-        return Answer::Refused(Refusal::BadMap);
-    }
-    let bytes = new.bytes;
-    turning::store(maps, job, bytes);
-    Answer::Done
+    let Some(new) = judging::listed(nodes, list) else {
+        return Err(Refusal::BadMap);
+    };
+    turning::store(maps, job, new);
+    Ok(Effect::Done)
 }
 
 // The tenant's call: the entries of its map that a job keeps, by their numbers.
@@ -54,7 +47,7 @@ pub fn keep_nodes(nodes: usize, jobs: &[u64], maps: &mut [u8], job: usize, kept:
     ensures { (t : Tables) → outcome (answer_of result) (with_jobs t jobs.now maps.new) ≡ on_keep nodes (with_jobs t jobs.now maps.old) job kept.now }
 {
     if !table::mapped_ok(nodes, jobs.len(), maps.len()) {
-        return Answer::Refused(Refusal::BadTables);
+        return Err(Refusal::BadTables);
     }
     keep_at(nodes, jobs, maps, job, kept)
 }
@@ -64,7 +57,7 @@ pub fn set_map(nodes: usize, jobs: &[u64], maps: &mut [u8], job: usize, list: &[
     ensures { (t : Tables) → outcome (answer_of result) (with_jobs t jobs.now maps.new) ≡ on_set_map nodes (with_jobs t jobs.now maps.old) job list.now }
 {
     if !table::mapped_ok(nodes, jobs.len(), maps.len()) {
-        return Answer::Refused(Refusal::BadTables);
+        return Err(Refusal::BadTables);
     }
     set_at(nodes, jobs, maps, job, list)
 }

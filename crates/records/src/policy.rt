@@ -56,7 +56,7 @@ impl AppPolicy {
         ensures { (result ≤ self.len) × ((p : Asked) → Asks self p → take result self.places ≡ named_places p) }
     {
         let places = self.places;
-        if (self.mode == 4) & rules::closes(places, self.len) {
+        if (self.mode == 4) & rules::closes(&places[..self.len]) {
             return self.len - 1;
         }
         self.len

@@ -1,90 +1,53 @@
 -- `keep_at` leaves a job's map the entries that are kept.
 -- Assumes nothing.
-use Prim.Native.Nat.{ℕ, ◌+◌, ◌*◌, ◌≤◌}
 use mathlib.Core.Bool.{true}
-use mathlib.Core.List.{List, map}
-use mathlib.Core.Path.{◌≡◌, sym, subst, ◌∙◌}
-use borrow.Author.Rules.{rules}
-use borrow.Author.Tests.{not-true, not-false}
+use mathlib.Core.Path.{◌≡◌, sym, ◌∙◌}
 use lib.ListN.{length}
-use Rattle.rules.specs.Maps.{map_size, map_bytes, nodes_in, bytes_for, put_map, good_map, system_node, keeps_of}
+use Prim.Native.Nat.{◌+◌, ◌*◌, ◌≤◌}
+use borrow.Author.Rules.{rules}
+use Rattle.rules.specs.Maps.{map_size, put_map}
 use Rattle.rules.specs.Calls.{is_job, map_of, is_mapped, after_writes, after_stores, after_remaps, applied, keep_decision, on_keep}
 use Rattle.rules.proofs.InOrder.{mapped_map}
 use Rattle.rules.proofs.Kept.{mapped_nodes}
 use Rattle.rules.proofs.Maps.{map_long}
-use Rattle.maps.specs.Judging.{Judges, IsMade}
-use Rattle.records.proofs.Judged.{judged_good, judged_bad}
 use Rattle.records.proofs.mapping.keep_at.Goals as goal
+use Rattle.records.proofs.mapping.keep_at.Goals.{Else-not-has_job}
+
+-- the job is one of the table's
+found : (c : Else-not-has_job) → is_job c.args.jobs.now c.args.job ≡ true
+found c = sym c.has_job.ensures ∙ c.if-not-has_job.false
+
+-- so it has a map in the table of maps
+in_table : (c : Else-not-has_job) → map_size * c.args.job + map_size ≤ length c.args.maps.now
+in_table c = mapped_map c.args.nodes (length c.args.jobs.now) (length c.args.maps.now) c.args.job c.requires (found c)
 
 pub returns-then-not-has_job : goal.returns-then-not-has_job
 unfolding applied keep_decision on_keep
 returns-then-not-has_job c t = rw (c.requires, sym c.has_job.ensures ∙ c.if-not-has_job.true)
 
-pub judge-judged-requires : goal.judge-judged-requires
-judge-judged-requires c = let found : is_job c.args.jobs.now c.args.job ≡ true = sym c.has_job.ensures ∙ c.if-not-has_job.false in
-    let in-table : map_size * c.args.job + map_size ≤ length c.args.maps.now = mapped_map c.args.nodes (length c.args.jobs.now)
-    (length c.args.maps.now) c.args.job c.requires (found) in
-    let few = mapped_nodes _ (length c.args.jobs.now) (length c.args.maps.now) c.requires in
-    (few.0, few.1, rw c.of_job.ensures (map_long _ _ in-table))
+pub of_job-bytes-requires : goal.of_job-bytes-requires
+of_job-bytes-requires c = in_table c
 
-pub keep-new-requires : goal.keep-new-requires
-keep-new-requires c = let found : is_job c.args.jobs.now c.args.job ≡ true = sym c.has_job.ensures ∙ c.if-not-has_job.false in
-    let in-table : map_size * c.args.job + map_size ≤ length c.args.maps.now = mapped_map c.args.nodes (length c.args.jobs.now)
-    (length c.args.maps.now) c.args.job c.requires (found) in
-    let told : Judges c.args.nodes (map_bytes c.args.maps.now c.args.job) c.judge-judged.result = subst
-    (λ (bytes : List ℕ). Judges c.args.nodes bytes c.judge-judged.result) c.of_job.ensures c.judge-judged.ensures in
-    let is-good : (good_map c.args.nodes (map_bytes c.args.maps.now c.args.job) ≡ true) ×
-    (c.in-Good.entries ≡ length (nodes_in (map_bytes c.args.maps.now c.args.job))) = judged_good _ _ (told) c.in-Good.is in
-    (rw c.of_job-in-Good.ensures (map_long _ _ in-table), rw c.of_job-in-Good.ensures is-good.1)
+pub judge-requires : goal.judge-requires
+judge-requires c = let few = mapped_nodes _ (length c.args.jobs.now) (length c.args.maps.now) c.requires in
+    (few.0, few.1, rw c.of_job-bytes.ensures (map_long _ _ (in_table (goal.at.judge-requires c).Else-not-has_job)))
 
-pub returns-then-not-new : goal.returns-then-not-new
-unfolding map_of is_mapped applied keep_decision on_keep
-returns-then-not-new c t = let found : is_job c.args.jobs.now c.args.job ≡ true = sym c.has_job.ensures ∙ c.if-not-has_job.false in
-    let told : Judges c.args.nodes (map_bytes c.args.maps.now c.args.job) c.judge-judged.result = subst
-    (λ (bytes : List ℕ). Judges c.args.nodes bytes c.judge-judged.result) c.of_job.ensures c.judge-judged.ensures in
-    let is-good : (good_map c.args.nodes (map_bytes c.args.maps.now c.args.job) ≡ true) ×
-    (c.in-Good.entries ≡ length (nodes_in (map_bytes c.args.maps.now c.args.job))) = judged_good _ _ (told) c.in-Good.is in
-    let made : let nodes = nodes_in (map_bytes c.args.maps.now c.args.job) in
-    IsMade (keeps_of nodes c.args.kept.now) (bytes_for (map (system_node nodes) c.args.kept.now)) c.keep-new.result = subst
-    (λ (bytes : List ℕ). IsMade (keeps_of (nodes_in bytes) c.args.kept.now) (bytes_for (map (system_node (nodes_in bytes)) c.args.kept.now))
-    c.keep-new.result) c.of_job-in-Good.ensures c.keep-new.ensures in
-    rw (c.requires, found, is-good.0, sym made.0 ∙ not-true _ c.if-not-new.true)
-
-pub returns-else-not-new : goal.returns-else-not-new
-unfolding map_of is_mapped put_map after_writes after_stores after_remaps applied keep_decision on_keep
-returns-else-not-new c t = let found : is_job c.args.jobs.now c.args.job ≡ true = sym c.has_job.ensures ∙ c.if-not-has_job.false in
-    let told : Judges c.args.nodes (map_bytes c.args.maps.now c.args.job) c.judge-judged.result = subst
-    (λ (bytes : List ℕ). Judges c.args.nodes bytes c.judge-judged.result) c.of_job.ensures c.judge-judged.ensures in
-    let is-good : (good_map c.args.nodes (map_bytes c.args.maps.now c.args.job) ≡ true) ×
-    (c.in-Good.entries ≡ length (nodes_in (map_bytes c.args.maps.now c.args.job))) = judged_good _ _ (told) c.in-Good.is in
-    let made : let nodes = nodes_in (map_bytes c.args.maps.now c.args.job) in
-    IsMade (keeps_of nodes c.args.kept.now) (bytes_for (map (system_node nodes) c.args.kept.now)) c.keep-new.result = subst
-    (λ (bytes : List ℕ). IsMade (keeps_of (nodes_in bytes) c.args.kept.now) (bytes_for (map (system_node (nodes_in bytes)) c.args.kept.now))
-    c.keep-new.result) c.of_job-in-Good.ensures c.keep-new.ensures in
-    let listed = sym made.0 ∙ not-false _ c.if-not-new.false in
-    rw (c.requires, found, is-good.0, listed, c.store.ensures, made.1 listed)
-
-pub returns-in-Bad : goal.returns-in-Bad
+pub returns-in_default : goal.returns-in_default
 unfolding is_mapped applied keep_decision on_keep
-returns-in-Bad c t = let found : is_job c.args.jobs.now c.args.job ≡ true = sym c.has_job.ensures ∙ c.if-not-has_job.false in
-    let told : Judges c.args.nodes (map_bytes c.args.maps.now c.args.job) c.judge-judged.result = subst
-    (λ (bytes : List ℕ). Judges c.args.nodes bytes c.judge-judged.result) c.of_job.ensures c.judge-judged.ensures in
-    rw (c.requires, found, judged_bad _ _ told c.in-Bad.is)
+returns-in_default c t = rw (c.requires, found (goal.at.returns-in_default c).Else-not-has_job, sym c.of_job-bytes.ensures, c.in_default.ensures)
 
-pub of_job-requires : goal.of_job-requires
-of_job-requires c = let found : is_job c.args.jobs.now c.args.job ≡ true = sym c.has_job.ensures ∙ c.if-not-has_job.false in
-    let in-table : map_size * c.args.job + map_size ≤ length c.args.maps.now = mapped_map c.args.nodes (length c.args.jobs.now)
-    (length c.args.maps.now) c.args.job c.requires (found) in
-    in-table
+pub keep-requires : goal.keep-requires
+keep-requires c = (rw c.of_job-bytes.ensures (map_long _ _ (in_table (goal.at.keep-requires c).Else-not-has_job)), c.in-Some.ensures.2)
 
-pub of_job-requires-in-Good : goal.of_job-requires-in-Good
-of_job-requires-in-Good c = let found : is_job c.args.jobs.now c.args.job ≡ true = sym c.has_job.ensures ∙ c.if-not-has_job.false in
-    let in-table : map_size * c.args.job + map_size ≤ length c.args.maps.now = mapped_map c.args.nodes (length c.args.jobs.now)
-    (length c.args.maps.now) c.args.job c.requires (found) in
-    in-table
+pub returns-in_default-keep : goal.returns-in_default-keep
+unfolding map_of is_mapped applied keep_decision on_keep
+returns-in_default-keep c t = rw (c.requires, found (goal.at.returns-in_default-keep c).Else-not-has_job, sym c.of_job-bytes.ensures,
+    c.in-Some.ensures.0, c.in_default-keep.ensures)
 
 pub store-requires : goal.store-requires
-store-requires c = let found : is_job c.args.jobs.now c.args.job ≡ true = sym c.has_job.ensures ∙ c.if-not-has_job.false in
-    let in-table : map_size * c.args.job + map_size ≤ length c.args.maps.now = mapped_map c.args.nodes (length c.args.jobs.now)
-    (length c.args.maps.now) c.args.job c.requires (found) in
-    in-table
+store-requires c = in_table (goal.at.store-requires c).Else-not-has_job
+
+pub returns : goal.returns
+unfolding map_of is_mapped put_map after_writes after_stores after_remaps applied keep_decision on_keep
+returns c t = rw (c.requires, found (goal.at.returns c).Else-not-has_job, sym c.of_job-bytes.ensures, c.in-Some.ensures.0,
+    c.in-Some-keep.ensures.0, c.store.ensures, c.in-Some-keep.ensures.1)
