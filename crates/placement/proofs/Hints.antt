@@ -29,7 +29,9 @@ use Rattle.machine.proofs.Tables.{pages_step}
 use Rattle.placement.specs.Hints.{hint_at, all_pages, Covers, Hints, lowered, hinted, Named}
 use Rattle.placement.specs.Placed.{placed_as, InNode}
 use Rattle.placement.specs.declared.placed.Placed.{Placed}
-use Rattle.placement.specs.declared.placed.Placed.TheVariants.{Granted, Released, Refused}
+use Rattle.placement.specs.declared.placed.Placed.TheVariants.{Granted, Released}
+use Rattle.rules.specs.declared.Refusal.{Refusal}
+use Rattle.std.specs.Prelude.{Result, Ok, Err}
 
 -- ---- entries of a table
 
@@ -184,10 +186,10 @@ module _ (counts ledger hints : List ℕ) (h : Hints counts ledger hints) where
 
 module _ (counts starts hints nodes : List ℕ) (j : ℕ) where
   -- a refusal leaves them
-  refused_placed : (r : Placed) (q : ℕ) → placed_as nodes r ≡ refused q → (hinted starts j hints r ≡ hints) × Named starts r
-  refused_placed (Granted n p) q e = absurd (let z : ◌≡◌ {A = ℕ} 0 1 = cc in omega arith)
-  refused_placed (Released n p) q e = absurd (let z : ◌≡◌ {A = ℕ} 0 1 = cc in omega arith)
-  refused_placed (Refused why) q e = (refl, tt)
+  refused_placed : (r : Result Placed Refusal) (q : ℕ) → placed_as nodes r ≡ refused q → (hinted starts j hints r ≡ hints) × Named starts r
+  refused_placed (Ok (Granted n p)) q e = absurd (let z : ◌≡◌ {A = ℕ} 0 1 = cc in omega arith)
+  refused_placed (Ok (Released n p)) q e = absurd (let z : ◌≡◌ {A = ℕ} 0 1 = cc in omega arith)
+  refused_placed (Err why) q e = (refl, tt)
 
   -- page p lies in node n, which is one of the machine's
   module _ (n p : ℕ) (s : Starts counts starts) (o : PageOf counts n p) (few : n < most_nodes) (small : p < 1048576) where
@@ -201,33 +203,33 @@ module _ (counts starts hints nodes : List ℕ) (j : ℕ) where
     named = (few, omega (arith, first_is, o.start), small)
 
     -- a grant of page p moves those of its node
-    granted_placed : (r : Placed) (a : ℕ) → InNode counts r → placed_as nodes r ≡ granted a p
+    granted_placed : (r : Result Placed Refusal) (a : ℕ) → InNode counts r → placed_as nodes r ≡ granted a p
         → (hinted starts j hints r ≡ cond (has_colour counts j n p) (set hints (hint_at n (j % 4)) (p + 1))
         (set (set hints (hint_at n all_pages) (p + 1)) (hint_at n (j % 4)) (first_page counts n + get_or counts n 0))) × Named starts r
     unfolding has_colour colour_of
-    granted_placed (Granted k q) a here e =
+    granted_placed (Ok (Granted k q)) a here e =
         let page : q.0 ≡ p = cc in
         let node : k.0 ≡ n = here ∙ ap (node_of_page counts) page ∙ page_node o in
         (rw (page, node, first_is, end_is), rw (page, node) named)
-    granted_placed (Released k q) a here e = absurd (let z : ◌≡◌ {A = ℕ} 0 1 = cc in omega arith)
-    granted_placed (Refused why) a here e = absurd (let z : ◌≡◌ {A = ℕ} 0 1 = cc in omega arith)
+    granted_placed (Ok (Released k q)) a here e = absurd (let z : ◌≡◌ {A = ℕ} 0 1 = cc in omega arith)
+    granted_placed (Err why) a here e = absurd (let z : ◌≡◌ {A = ℕ} 0 1 = cc in omega arith)
 
     -- and so may a release
-    released_placed : (r : Placed) (a : ℕ) → InNode counts r → placed_as nodes r ≡ released a p
+    released_placed : (r : Result Placed Refusal) (a : ℕ) → InNode counts r → placed_as nodes r ≡ released a p
         → (hinted starts j hints r ≡ lowered (lowered hints (hint_at n all_pages) p) (hint_at n (colour_of counts n p)) p) × Named starts r
     unfolding colour_of
-    released_placed (Granted k q) a here e = absurd (let z : ◌≡◌ {A = ℕ} 0 1 = cc in omega arith)
-    released_placed (Released k q) a here e =
+    released_placed (Ok (Granted k q)) a here e = absurd (let z : ◌≡◌ {A = ℕ} 0 1 = cc in omega arith)
+    released_placed (Ok (Released k q)) a here e =
         let page : q.0 ≡ p = cc in
         let node : k.0 ≡ n = here ∙ ap (node_of_page counts) page ∙ page_node o in
         (rw (page, node, first_is), rw (page, node) named)
-    released_placed (Refused why) a here e = absurd (let z : ◌≡◌ {A = ℕ} 0 1 = cc in omega arith)
+    released_placed (Err why) a here e = absurd (let z : ◌≡◌ {A = ℕ} 0 1 = cc in omega arith)
 
 module _ (counts starts : List ℕ) (t : Tables) (hints : List ℕ) (i : CountsInOrder counts) (s : Starts counts starts)
     (h : Hints counts t.ledger hints) where
   -- a release
-  pub release_hints : (j p : ℕ) (r : Placed) (nodes : List ℕ) {after : Tables} → InNode counts r → outcome (placed_as nodes r) after ≡ on_release counts t j p
-      → Hints counts after.ledger (hinted starts j hints r) × Named starts r
+  pub release_hints : (j p : ℕ) (r : Result Placed Refusal) (nodes : List ℕ) {after : Tables} → InNode counts r
+      → outcome (placed_as nodes r) after ≡ on_release counts t j p → Hints counts after.ledger (hinted starts j hints r) × Named starts r
   unfolding on_release applied after_writes holds
   release_hints j p r nodes {after} here e = go (release_decision counts t j p) refl e
     where
@@ -249,7 +251,7 @@ module _ (counts starts : List ℕ) (t : Tables) (hints : List ℕ) (i : CountsI
 module _ (m : Machine) (starts : List ℕ) (t : Tables) (hints : List ℕ) (i : CountsInOrder m.page_counts) (s : Starts m.page_counts starts)
     (h : Hints m.page_counts t.ledger hints) where
   -- a request
-  pub request_hints : (j k : ℕ) (r : Placed) (nodes : List ℕ) {after : Tables} → InNode m.page_counts r
+  pub request_hints : (j k : ℕ) (r : Result Placed Refusal) (nodes : List ℕ) {after : Tables} → InNode m.page_counts r
       → outcome (placed_as nodes r) after ≡ on_request m t j k → Hints m.page_counts after.ledger (hinted starts j hints r) × Named starts r
   unfolding on_request applied after_writes
   request_hints j k r nodes {after} here e = go (request_decision m t j k) refl e

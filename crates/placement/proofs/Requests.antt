@@ -28,7 +28,9 @@ use Rattle.placement.specs.Grants.{Ready}
 use Rattle.placement.specs.Hints.{Hints}
 use Rattle.placement.specs.Placed.{placed_as, HasMap}
 use Rattle.placement.specs.declared.placed.Placed.{Placed}
-use Rattle.placement.specs.declared.placed.Placed.TheVariants.{Granted, Released, Refused}
+use Rattle.placement.specs.declared.placed.Placed.TheVariants.{Granted, Released}
+use Rattle.rules.specs.declared.Refusal.{Refusal}
+use Rattle.std.specs.Prelude.{Result, Ok, Err}
 use Rattle.rules.proofs.InOrder.{machine_ok_lem, release_ok, fresh_ok, jobs_ok_lem, job_map, pages_in_order_lem}
 use Rattle.placement.proofs.InOrder.{ready}
 
@@ -37,15 +39,15 @@ unfolding machine_ok
 table_ok_lem m h = (both_true {a = nodes_ok (node_count m) && pages_ok m.page_counts && cpus_ok (node_count m) m.cpu_nodes} h).1
 
 -- what is answered by a refusal is one
-refused_map : (nodes : List ℕ) (bytes j : ℕ) {q : ℕ} (r : Placed) → placed_as nodes r ≡ refused q → HasMap bytes j r
-refused_map nodes bytes j (Granted n p) e = absurd (let z : ◌≡◌ {A = ℕ} 0 1 = cc in omega arith)
-refused_map nodes bytes j (Released n p) e = absurd (let z : ◌≡◌ {A = ℕ} 0 1 = cc in omega arith)
-refused_map nodes bytes j (Refused why) e = tt
+refused_map : (nodes : List ℕ) (bytes j : ℕ) {q : ℕ} (r : Result Placed Refusal) → placed_as nodes r ≡ refused q → HasMap bytes j r
+refused_map nodes bytes j (Ok (Granted n p)) e = absurd (let z : ◌≡◌ {A = ℕ} 0 1 = cc in omega arith)
+refused_map nodes bytes j (Ok (Released n p)) e = absurd (let z : ◌≡◌ {A = ℕ} 0 1 = cc in omega arith)
+refused_map nodes bytes j (Err why) e = tt
 
-mapped : (bytes j : ℕ) (r : Placed) → map_size * j + map_size ≤ bytes → HasMap bytes j r
-mapped bytes j (Granted n p) h = h
-mapped bytes j (Released n p) h = h
-mapped bytes j (Refused why) h = tt
+mapped : (bytes j : ℕ) (r : Result Placed Refusal) → map_size * j + map_size ≤ bytes → HasMap bytes j r
+mapped bytes j (Ok (Granted n p)) h = h
+mapped bytes j (Ok (Released n p)) h = h
+mapped bytes j (Err why) h = tt
 
 module _ (m : Machine) (t : Tables) (j k : ℕ) where
   -- a request that is let through passes its tests, and goes by the job's record
@@ -108,8 +110,8 @@ module _ (m : Machine) (t : Tables) (j k : ℕ) where
   request_served e l h = rw (sym e) (rw ((let_through e).1, l) at h)
 
   -- a job whose request was not refused has a map
-  pub request_map : (nodes : List ℕ) {after : Tables} (r : Placed) → request_tables_ok m t ≡ true → outcome (placed_as nodes r) after ≡ on_request m t j k
-      → HasMap (length t.maps) j r
+  pub request_map : (nodes : List ℕ) {after : Tables} (r : Result Placed Refusal) → request_tables_ok m t ≡ true
+      → outcome (placed_as nodes r) after ≡ on_request m t j k → HasMap (length t.maps) j r
   unfolding on_request applied
   request_map nodes {after} r ok e = go (request_decision m t j k) refl e
     where
@@ -120,7 +122,7 @@ module _ (m : Machine) (t : Tables) (j k : ℕ) where
           mapped (length t.maps) j r fits
 
 -- and so has one whose release was not
-pub release_map : (counts : List ℕ) (t : Tables) (j p : ℕ) (nodes : List ℕ) {after : Tables} (r : Placed) → release_tables_ok counts t ≡ true
+pub release_map : (counts : List ℕ) (t : Tables) (j p : ℕ) (nodes : List ℕ) {after : Tables} (r : Result Placed Refusal) → release_tables_ok counts t ≡ true
     → outcome (placed_as nodes r) after ≡ on_release counts t j p → HasMap (length t.maps) j r
 unfolding on_release applied
 release_map counts t j p nodes {after} r ok e = go (release_decision counts t j p) refl e

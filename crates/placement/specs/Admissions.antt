@@ -1,21 +1,21 @@
--- What the code's enum for a request's tests stands for in the rules.
-use Rattle.std.specs.Prelude.{ℕ, ◌≡◌, ltb}
+-- What the result of a request's tests stands for in the rules.
+use Rattle.std.specs.Prelude.{ℕ, ◌≡◌, ltb, Result, Ok, Err}
 use Rattle.rules.specs.Records.{Record, well_formed}
 use Rattle.rules.specs.Decisions.{Decision, refuse, accept, unless}
 use Rattle.rules.specs.Answers.{number_of}
+use Rattle.rules.specs.declared.Refusal.{Refusal}
 use Rattle.records.specs.Jobs.{record_of}
-use Rattle.placement.specs.declared.Admission.{Admission}
-use Rattle.placement.specs.declared.Admission.TheVariants.{Passed, Refused}
+use Rattle.placement.specs.declared.Admitted.{Admitted}
 
 -- the record that the request goes by, or the refusal
-abbrev pub admission_of : Admission → Decision Record
-admission_of (Passed r limit) = accept (record_of r)
-admission_of (Refused why) = refuse (number_of why)
+abbrev pub admission_of : Result Admitted Refusal → Decision Record
+admission_of (Ok a) = accept (record_of a.record)
+admission_of (Err why) = refuse (number_of why)
 
 -- the nodes that the job may get are these
-abbrev pub LimitIs : ℕ → Admission → Type 0
-LimitIs limit (Passed r set) = set.0 ≡ limit
-LimitIs limit (Refused why) = Unit {0}
+abbrev pub LimitIs : ℕ → Result Admitted Refusal → Type 0
+LimitIs limit (Ok a) = a.limit.0 ≡ limit
+LimitIs limit (Err why) = Unit {0}
 
 -- "3, 4": the tests that are left once a job with this record has a good map
 abbrev pub admit_tests : ℕ → ℕ → ℕ → Record → Decision Record

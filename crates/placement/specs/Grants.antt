@@ -1,6 +1,8 @@
--- M-105, the page picked inside a node: what the code's enum for the page stands for, and what a grant may count on.
-use Rattle.std.specs.Prelude.{ℕ, ◌+◌, ◌-◌, ◌*◌, ◌%◌, ◌≤◌, ◌<◌, ◌≡◌, List, ◌++◌, length, get_or}
-use Rattle.std.proofs.Math.Option.{Option, none, some}
+-- M-105, the page picked inside a node: what the page that is marked stands for, and what a grant may count on.
+use Rattle.std.specs.Prelude.{ℕ, ◌+◌, ◌-◌, ◌*◌, ◌%◌, ◌≤◌, ◌<◌, ◌≡◌, List, ◌++◌, length, get_or, Option, Some, None}
+use Rattle.std.proofs.Math.Option as Math
+use Rattle.std.proofs.Math.Option.{none, some}
+use Rattle.rules.specs.declared.Page.{Page}
 use Rattle.rules.specs.Basics.{keep, first, sum}
 use Rattle.rules.specs.Masks.{most_nodes}
 use Rattle.rules.specs.Records.{most_jobs}
@@ -8,16 +10,14 @@ use Rattle.rules.specs.SearchOrder.{free_pages, has_colour}
 use Rattle.machine.specs.Tables.{Starts}
 use Rattle.placement.specs.Hints.{hint_at, all_pages}
 use Rattle.placement.specs.declared.grant.Part.{Part}
-use Rattle.placement.specs.declared.grant.Marked.{Marked}
-use Rattle.placement.specs.declared.grant.Marked.TheVariants.{At, Full}
 
 -- the page that is marked, if there is one
-abbrev pub page_by : Marked → Option ℕ
-page_by (At p) = some p.0
-page_by Full = none
+abbrev pub page_by : Option Page → Math.Option ℕ
+page_by (Some p) = some p.0
+page_by None = none
 
 -- the page of node n that job j gets, if the node has a free one: "of the colour; failing that, the lowest free page"
-unfoldable pub page_for : List ℕ → List ℕ → ℕ → ℕ → Option ℕ
+unfoldable pub page_for : List ℕ → List ℕ → ℕ → ℕ → Math.Option ℕ
 page_for counts ledger j n = first (keep (has_colour counts j n) (free_pages counts ledger n) ++ free_pages counts ledger n)
 
 -- where each node's pages start, and that the page table has them

@@ -18,13 +18,6 @@ use pages::Found;
 use records::table;
 use rules::{MOST_NODES, Page, Refusal, SysNode};
 
-// The page that is marked, if the node has a free one.
-#[derive(Clone, Copy)]
-pub enum Marked {
-    At(Page),
-    Full,
-}
-
 // The part of a node's pages that is searched for a job: from a page before which all are held, to the node's end; how far from its start all
 // pages of the job's colour are held; and that colour, counted from its start.
 #[derive(Clone, Copy)]
@@ -58,7 +51,8 @@ fn part_of(starts: &[u32; MOST_NODES + 1], hints: &[u32], node: SysNode, job: u8
     }
 }
 
-// Marks the page of a node that a job gets: the node's part of the page table, from its hint on, lent on to the page picker.
+// Marks the page of a node that a job gets, if the node has a free one: the node's part of the page table, from its hint on, lent on to the
+// page picker.
 pub fn mark_page(
     counts: &[u32],
     starts: &[u32; MOST_NODES + 1],
@@ -66,7 +60,7 @@ pub fn mark_page(
     pages: &mut [u8],
     node: SysNode,
     job: u8,
-) -> Marked
+) -> Option<Page>
     requires { Ready counts.now starts.now pages.old job × (node.0 < length counts.now) × Hints counts.now pages.old hints.now }
     ensures answer { page_by result ≡ page_for counts.now pages.old job node.0 }
     ensures table { pages.new ≡ mark pages.old (page_by result) (job + 1) }
@@ -76,8 +70,8 @@ pub fn mark_page(
     let end = part.end.0 as usize;
     let found = pages::pick(&mut pages[start..end], part.ahead, part.colour, job + 1);
     match found {
-        Found::At(offset) => Marked::At(offset.after(part.low)),
-        Found::Full => Marked::Full,
+        Found::At(offset) => Some(offset.after(part.low)),
+        Found::Full => None,
     }
 }
 
@@ -92,19 +86,15 @@ pub fn grant_node(
     job: usize,
     node: SysNode,
     cursor: u8,
-) -> Placed
+) -> Result<Placed, Refusal>
     requires { Ready counts.now starts.now pages.old job × (is_job jobs.old job ≡ true) × Chose counts.now free.old node.0 × Hints counts.now pages.old hints.now }
     ensures did { (maps : List ℕ) → outcome (placed_as (map_of (tables_of pages.old jobs.old free.old maps) job) result) (tables_of pages.new jobs.new free.new maps) ≡ applied (tables_of pages.old jobs.old free.old maps) (serve counts.now (tables_of pages.old jobs.old free.old maps) job (some (try (turn_of cursor) node.0))) }
     ensures found { InNode counts.now result }
 {
     let marked = mark_page(counts, starts, hints, pages, node, job as u8);
-    match marked {
-        Marked::At(page) => {
-            let n = node.0 as usize;
-            free[n] = free[n] - 1;
-            table::store_cursor(jobs, job, cursor);
-            Placed::Granted(node, page)
-        }
-        Marked::Full => Placed::Refused(Refusal::WrongCount),
-    }
+    let page = marked.ok_or(Refusal::WrongCount)?;
+    let n = node.0 as usize;
+    free[n] = free[n] - 1;
+    table::store_cursor(jobs, job, cursor);
+    Ok(Placed::Granted(node, page))
 }

@@ -1,12 +1,12 @@
 // Hints: pages before which the pages of a node, or those of one colour, are held. A list of calls keeps them; a single call has none.
 
-ghost use Rattle.std.specs.Prelude.{ℕ, ◌+◌, ◌-◌, ◌*◌, ◌%◌, ◌<◌, ◌≤◌, ◌≡◌, get_or};
+ghost use Rattle.std.specs.Prelude.{ℕ, ◌+◌, ◌-◌, ◌*◌, ◌%◌, ◌<◌, ◌≤◌, ◌≡◌, get_or, Ok};
 ghost use Rattle.rules.specs.Masks.{most_nodes};
 ghost use Rattle.placement.specs.Hints.{hint_at, lowered, hinted, Named};
 ghost use Rattle.placement.specs.declared.placed.Placed.TheVariants.{Granted};
 
 use super::placed::Placed;
-use rules::{MOST_NODES, Page, SysNode};
+use rules::{MOST_NODES, Page, Refusal, SysNode};
 
 // Five hints to a node: one for each colour, and one for all its pages.
 pub const HINTS: usize = 5 * MOST_NODES;
@@ -59,8 +59,8 @@ fn keep_granted(
     node: SysNode,
     page: Page,
 )
-    requires { Named starts.now (Granted node page) }
-    ensures { hints.new ≡ hinted starts.now job hints.old (Granted node page) }
+    requires { Named starts.now (Ok (Granted node page)) }
+    ensures { hints.new ≡ hinted starts.now job hints.old (Ok (Granted node page)) }
 {
     let n = node.0 as usize;
     let own = hint_at(node, job % 4);
@@ -83,19 +83,24 @@ fn lower_hint(hints: &mut [u32; HINTS], at: usize, page: Page)
 }
 
 // The hints after a page is placed for a job.
-pub fn keep(starts: &[u32; MOST_NODES + 1], hints: &mut [u32; HINTS], job: usize, placed: Placed)
+pub fn keep(
+    starts: &[u32; MOST_NODES + 1],
+    hints: &mut [u32; HINTS],
+    job: usize,
+    placed: Result<Placed, Refusal>,
+)
     requires { Named starts.now placed }
     ensures { hints.new ≡ hinted starts.now job hints.old placed }
 {
     match placed {
-        Placed::Granted(node, page) => {
+        Ok(Placed::Granted(node, page)) => {
             keep_granted(starts, hints, job, node, page);
         }
-        Placed::Released(node, page) => {
+        Ok(Placed::Released(node, page)) => {
             let colour = colour_of(Page(starts[node.0 as usize]), page);
             lower_hint(hints, hint_at(node, ALL_PAGES), page);
             lower_hint(hints, hint_at(node, colour), page);
         }
-        Placed::Refused(_) => {}
+        Err(_) => {}
     }
 }

@@ -27,7 +27,6 @@ use placed::Placed;
 use records::record::Record;
 use records::table;
 use rules::{Answer, MOST_NODES, Page, Refusal, SysNode};
-use search::Chosen;
 
 pub mod grant;
 pub mod hinting;
@@ -60,11 +59,11 @@ pub fn lent_ok(
 
 // ---- request
 
-// What a request's tests before the search come to: the record that it goes by and the nodes that the job may get, or a refusal.
+// What a request that has passed the tests before the search goes by: its job's record and the nodes that the job may get.
 #[derive(Clone, Copy)]
-pub enum Admission {
-    Passed(Record, Mask),
-    Refused(Refusal),
+pub struct Admitted {
+    pub record: Record,
+    pub limit: Mask,
 }
 
 // "3, 4": the tests that are left for a job with a good map, whose nodes are this set.
@@ -75,20 +74,20 @@ pub fn admit_mapped(
     set: Mask,
     job: usize,
     cpu: usize,
-) -> Admission
+) -> Result<Admitted, Refusal>
     requires { job < job_count (length jobs.now) }
     ensures tested { admission_of result ≡ admit_tests nodes cpus cpu (record_at jobs.now job) }
     ensures limit { LimitIs (both (record_at jobs.now job).allowed set.0) result }
 {
     if cpu >= cpus {
-        return Admission::Refused(Refusal::NoSuchCpu);
+        return Err(Refusal::NoSuchCpu);
     }
     let record = table::load(jobs, job);
     if !record.well_formed(nodes) {
-        return Admission::Refused(Refusal::MalformedRecord);
+        return Err(Refusal::MalformedRecord);
     }
     let limit = record.allowed.both(set);
-    Admission::Passed(record, limit)
+    Ok(Admitted { record, limit })
 }
 
 // "Order: request 1, 2", 15, "3, 4": the tests before the search, on tables that are in order.
@@ -102,20 +101,20 @@ pub fn admit(
     maps: &[u8],
     job: usize,
     cpu: usize,
-) -> Admission
+) -> Result<Admitted, Refusal>
     requires { request_tables_ok (machine_of counts.now cpus.now distances.now) (tables_of pages.now jobs.now free.now maps.now) ≡ true }
     ensures tested { admission_of result ≡ admitted (machine_of counts.now cpus.now distances.now) (tables_of pages.now jobs.now free.now maps.now) job cpu }
     ensures limit { LimitIs (limit_of (tables_of pages.now jobs.now free.now maps.now) job) result }
 {
     let known = table::has_job(jobs.len(), job);
     if !known {
-        return Admission::Refused(Refusal::NoSuchJob);
+        return Err(Refusal::NoSuchJob);
     }
     let nodes = counts.len();
     let judged = judging::judge(nodes, turning::of_job(maps, job));
     match judged {
         Judged::Good(set, _) => admit_mapped(nodes, cpus.len(), jobs, set, job, cpu),
-        Judged::Bad => Admission::Refused(Refusal::BadMap),
+        Judged::Bad => Err(Refusal::BadMap),
     }
 }
 
@@ -132,19 +131,25 @@ fn serve(
     loaded: Record,
     limit: Mask,
     x: SysNode,
-) -> Placed
+) -> Result<Placed, Refusal>
     requires { Ready counts.now starts.now pages.old job × (is_job jobs.old job ≡ true) × (length free.old ≡ length counts.now) × Searchable free.old distances.now limit.0 (record_of loaded) x.0 × Hints counts.now pages.old hints.now }
     ensures did { (maps : List ℕ) → outcome (placed_as (map_of (tables_of pages.old jobs.old free.old maps) job) result) (tables_of pages.new jobs.new free.new maps) ≡ applied (tables_of pages.old jobs.old free.old maps) (serve counts.now (tables_of pages.old jobs.old free.old maps) job (chosen free.old (order (length counts.now) distances.now limit.0 (plan limit.0 (record_of loaded) x.0)))) }
     ensures found { InNode counts.now result }
 {
     let decoded = loaded.job();
-    let chosen = search::search(free, distances, limit, decoded, x);
-    match chosen {
-        Chosen::At(node, cursor) => {
-            grant::grant_node(counts, starts, hints, pages, jobs, free, job, node, cursor)
-        }
-        Chosen::Nothing => Placed::Refused(Refusal::NoRoom),
-    }
+    let found = search::search(free, distances, limit, decoded, x);
+    let chosen = found.ok_or(Refusal::NoRoom)?;
+    grant::grant_node(
+        counts,
+        starts,
+        hints,
+        pages,
+        jobs,
+        free,
+        job,
+        chosen.node,
+        chosen.cursor,
+    )
 }
 
 // A request on tables that are in order. A page is searched for from its node's hints on; there may be none.
@@ -160,21 +165,26 @@ pub fn request_at(
     maps: &[u8],
     job: usize,
     cpu: usize,
-) -> Placed
+) -> Result<Placed, Refusal>
     requires { (request_tables_ok (machine_of counts.now cpus.now distances.now) (tables_of pages.old jobs.old free.old maps.now) ≡ true) × Starts counts.now starts.now × Hints counts.now pages.old hints.now }
     ensures did { outcome (placed_as (map_of (tables_of pages.old jobs.old free.old maps.now) job) result) (tables_of pages.new jobs.new free.new maps.now) ≡ on_request (machine_of counts.now cpus.now distances.now) (tables_of pages.old jobs.old free.old maps.now) job cpu }
     ensures found { InNode counts.now result }
 {
-    let admission = admit(counts, cpus, distances, pages, jobs, free, maps, job, cpu);
-    match admission {
-        Admission::Passed(record, limit) => {
-            let x = SysNode(cpus[cpu]);
-            serve(
-                counts, starts, hints, distances, pages, jobs, free, job, record, limit, x,
-            )
-        }
-        Admission::Refused(why) => Placed::Refused(why),
-    }
+    let admitted = admit(counts, cpus, distances, pages, jobs, free, maps, job, cpu)?;
+    let x = SysNode(cpus[cpu]);
+    serve(
+        counts,
+        starts,
+        hints,
+        distances,
+        pages,
+        jobs,
+        free,
+        job,
+        admitted.record,
+        admitted.limit,
+        x,
+    )
 }
 
 // A request: refusals 1, 2, 15, 3, 4, 14 and 8, or the page that the search order names.
@@ -232,26 +242,26 @@ fn release_held(
     job: usize,
     page: usize,
     at: Located,
-) -> Placed
+) -> Result<Placed, Refusal>
     requires { (fresh_tables_ok counts.now (length pages.old) (length free.old) ≡ true) × (job < most_jobs) × (at.total ≡ sum counts.now) × (page < sum counts.now → at.node.0 ≡ node_of_page counts.now page) }
     ensures did { (jobs maps : List ℕ) → outcome (placed_as (map_of (tables_of pages.old jobs free.old maps) job) result) (tables_of pages.new jobs free.new maps) ≡ applied (tables_of pages.old jobs free.old maps) (release_tests counts.now (tables_of pages.old jobs free.old maps) job page) }
     ensures found { InNode counts.now result }
 {
     if page >= at.total {
-        return Placed::Refused(Refusal::NotHeld);
+        return Err(Refusal::NotHeld);
     }
     let holder = pages[page];
     if holder as usize != job + 1 {
-        return Placed::Refused(Refusal::NotHeld);
+        return Err(Refusal::NotHeld);
     }
     let node = at.node;
     let n = node.0 as usize;
     if counts[n] <= free[n] {
-        return Placed::Refused(Refusal::WrongCount);
+        return Err(Refusal::WrongCount);
     }
     pages[page] = 0;
     free[n] = free[n] + 1;
-    Placed::Released(node, Page(page as u32))
+    Ok(Placed::Released(node, Page(page as u32)))
 }
 
 // A release on tables that are in order, where the page's node is known.
@@ -264,18 +274,18 @@ fn release_located(
     job: usize,
     page: usize,
     at: Located,
-) -> Placed
+) -> Result<Placed, Refusal>
     requires { (release_tables_ok counts.now (tables_of pages.old jobs.now free.old maps.now) ≡ true) × (at.total ≡ sum counts.now) × (page < sum counts.now → at.node.0 ≡ node_of_page counts.now page) }
     ensures did { outcome (placed_as (map_of (tables_of pages.old jobs.now free.old maps.now) job) result) (tables_of pages.new jobs.now free.new maps.now) ≡ on_release counts.now (tables_of pages.old jobs.now free.old maps.now) job page }
     ensures found { InNode counts.now result }
 {
     if !table::has_job(jobs.len(), job) {
-        return Placed::Refused(Refusal::NoSuchJob);
+        return Err(Refusal::NoSuchJob);
     }
     let judged = judging::judge(counts.len(), turning::of_job(maps, job));
     match judged {
         Judged::Good(_, _) => release_held(counts, pages, free, job, page, at),
-        Judged::Bad => Placed::Refused(Refusal::BadMap),
+        Judged::Bad => Err(Refusal::BadMap),
     }
 }
 
@@ -289,7 +299,7 @@ pub fn release_at(
     maps: &[u8],
     job: usize,
     page: usize,
-) -> Placed
+) -> Result<Placed, Refusal>
     requires { (release_tables_ok counts.now (tables_of pages.old jobs.now free.old maps.now) ≡ true) × Starts counts.now starts.now }
     ensures did { outcome (placed_as (map_of (tables_of pages.old jobs.now free.old maps.now) job) result) (tables_of pages.new jobs.now free.new maps.now) ≡ on_release counts.now (tables_of pages.old jobs.now free.old maps.now) job page }
     ensures found { InNode counts.now result }

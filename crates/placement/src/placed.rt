@@ -8,28 +8,27 @@ ghost use Rattle.placement.specs.Placed.{placed_as, HasMap};
 use maps::turning;
 use rules::{Answer, Page, Refusal, SysNode};
 
-// A page that is granted or released, with its node; or why it is not.
+// A page that is granted or released, with its node.
 #[derive(Clone, Copy)]
 pub enum Placed {
     Granted(SysNode, Page),
     Released(SysNode, Page),
-    Refused(Refusal),
 }
 
 // "answers back": the node by its number in the job's map.
-pub fn tell(maps: &[u8], job: usize, placed: Placed) -> Answer
+pub fn tell(maps: &[u8], job: usize, placed: Result<Placed, Refusal>) -> Answer
     requires { HasMap (length maps.now) job placed }
     ensures { answer_of result ≡ placed_as (nodes_in (map_bytes maps.now job)) placed }
 {
     match placed {
-        Placed::Granted(node, page) => {
+        Ok(Placed::Granted(node, page)) => {
             let bytes = turning::of_job(maps, job);
             Answer::Granted(turning::named(bytes, node), page)
         }
-        Placed::Released(node, page) => {
+        Ok(Placed::Released(node, page)) => {
             let bytes = turning::of_job(maps, job);
             Answer::Released(turning::named(bytes, node), page)
         }
-        Placed::Refused(why) => Answer::Refused(why),
+        Err(why) => Answer::Refused(why),
     }
 }

@@ -18,9 +18,9 @@ use rules::{PLACES_PER_JOB, Place, SysNode};
 
 // The node that is chosen, and the cursor field that a grant there leaves.
 #[derive(Clone, Copy)]
-pub enum Chosen {
-    At(SysNode, u8),
-    Nothing,
+pub struct Chosen {
+    pub node: SysNode,
+    pub cursor: u8,
 }
 
 // Is the node one of the machine's, in the limit, and counted above 0? There is a count for each node.
@@ -37,14 +37,14 @@ pub fn is_open(free: &[u32], limit: Mask, node: SysNode) -> bool
 // ---- by near(x)
 
 // The nearest node of the set that is counted above 0.
-fn search_near(free: &[u32], distances: &[u8], set: Mask, x: SysNode, cursor: u8) -> Chosen
+fn search_near(free: &[u32], distances: &[u8], set: Mask, x: SysNode, cursor: u8) -> Option<Chosen>
     requires { Nearable (length free.now) distances.now set.0 x.0 }
     ensures { chosen_by result ≡ chosen free.now (map (try (turn_of cursor)) (near (length free.now) distances.now set.0 x.0)) }
 {
     let found = machine::nearest(free.len(), distances, free, set, x);
     match found {
-        Found::At(node) => Chosen::At(node, cursor),
-        Found::Nothing => Chosen::Nothing,
+        Found::At(node) => Some(Chosen { node, cursor }),
+        Found::Nothing => None,
     }
 }
 
@@ -73,7 +73,12 @@ fn cursor_after(walk: Walk, place: Place) -> u8
 }
 
 // The places from the cursor on, once round.
-fn search_round(free: &[u32], limit: Mask, places: [u8; PLACES_PER_JOB], walk: Walk) -> Chosen
+fn search_round(
+    free: &[u32],
+    limit: Mask,
+    places: [u8; PLACES_PER_JOB],
+    walk: Walk,
+) -> Option<Chosen>
     requires { (walk.len ≤ places_per_job) × (walk.cursor ≤ walk.len) }
     ensures { chosen_by result ≡ chosen free.now (tried (length free.now) limit.0 (round_tries walk.moves places (turn_of walk.cursor) walk.len walk.cursor walk.len)) }
 {
@@ -83,23 +88,30 @@ fn search_round(free: &[u32], limit: Mask, places: [u8; PLACES_PER_JOB], walk: W
         let place = place_at(position, walk.len);
         let node = SysNode(places[place.0 as usize]);
         if is_open(free, limit, node) {
-            return Chosen::At(node, cursor_after(walk, place));
+            let cursor = cursor_after(walk, place);
+            return Some(Chosen { node, cursor });
         }
         position = place.0 + 1;
         left -= 1;
     }
-    Chosen::Nothing
+    None
 }
 
 // Place 0 first where the walk is early, then the round.
-fn search_places(free: &[u32], limit: Mask, places: [u8; PLACES_PER_JOB], walk: Walk) -> Chosen
+fn search_places(
+    free: &[u32],
+    limit: Mask,
+    places: [u8; PLACES_PER_JOB],
+    walk: Walk,
+) -> Option<Chosen>
     requires { (walk.len ≤ places_per_job) × (walk.cursor ≤ walk.len) }
     ensures { chosen_by result ≡ chosen free.now (tried (length free.now) limit.0 (walk_tries walk places)) }
 {
     if walk.early {
-        let first = SysNode(places[0]);
-        if is_open(free, limit, first) {
-            return Chosen::At(first, cursor_after(walk, Place(0)));
+        let node = SysNode(places[0]);
+        if is_open(free, limit, node) {
+            let cursor = cursor_after(walk, Place(0));
+            return Some(Chosen { node, cursor });
         }
     }
     search_round(free, limit, places, walk)
@@ -115,21 +127,27 @@ fn search_closed(
     places: [u8; PLACES_PER_JOB],
     walk: Walk,
     x: SysNode,
-) -> Chosen
+) -> Option<Chosen>
     requires { (walk.len ≤ places_per_job) × (walk.cursor ≤ walk.len) × Nearable (length free.now) distances.now limit.0 x.0 }
     ensures { chosen_by result ≡ chosen free.now (tried (length free.now) limit.0 (walk_tries walk places) ++ map (try (turn_of walk.cursor)) (near (length free.now) distances.now limit.0 x.0)) }
 {
     let placed = search_places(free, limit, places, walk);
     match placed {
-        Chosen::At(node, cursor) => Chosen::At(node, cursor),
-        Chosen::Nothing => search_near(free, distances, limit, x, walk.cursor),
+        Some(chosen) => Some(chosen),
+        None => search_near(free, distances, limit, x, walk.cursor),
     }
 }
 
 // ---- by the plan
 
 // The search of a well-formed job from a CPU on node x. `limit` is the set of nodes that the job may get.
-pub fn search(free: &[u32], distances: &[u8], limit: Mask, decoded: Job, x: SysNode) -> Chosen
+pub fn search(
+    free: &[u32],
+    distances: &[u8],
+    limit: Mask,
+    decoded: Job,
+    x: SysNode,
+) -> Option<Chosen>
     requires { Searchable free.now distances.now limit.0 (job_of decoded) x.0 }
     ensures { chosen_by result ≡ chosen free.now (order (length free.now) distances.now limit.0 (plan limit.0 (job_of decoded) x.0)) }
 {

@@ -1,11 +1,8 @@
 -- `copy_counts` meets its contract. The loop's invariant: the counts before i are copied.
 -- Assumes nothing.
 use Prim.Native.Nat.{◌-◌, ◌≤◌}
-use mathlib.Core.Path.{◌≡◌, refl, sym, ◌∙◌}
-use native.Mathlib.Omega.{arith}
-use borrow.Author.Rules.{rules}
-use lib.ListN.{length, take, length-set}
-use Rattle.placement.proofs.Writes.{one_more, all_written}
+use mathlib.Core.Path.{◌≡◌}
+use lib.ListN.{length, take}
 use Rattle.placement.proofs.copy_counts.Given as goal
 
 abbrev pub invariant-loop-i : goal.invariant-loop-i

@@ -1,8 +1,6 @@
 -- `release_at` meets its contract: the page's node is found by the starts.
 -- Assumes nothing.
-use mathlib.Core.Logic.{⊎_elim}
 use native.Mathlib.Omega.{arith}
-use borrow.Author.Rules.{rules}
 use lib.ListN.{length}
 use Rattle.rules.specs.Calls.{Tables, tables_of}
 use Rattle.rules.proofs.InOrder.{PagesInOrder, fresh_ok, pages_in_order_lem}

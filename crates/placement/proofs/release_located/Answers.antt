@@ -3,8 +3,6 @@
 use Prim.Native.Nat.{◌+◌, ◌*◌, ◌≤◌}
 use mathlib.Core.Path.{◌≡◌, sym, ap, subst, ◌∙◌}
 use mathlib.Core.Bool.{true}
-use borrow.Author.Rules.{rules}
-use borrow.Author.Tests.{not-true, not-false}
 use lib.ListN.{length}
 use Rattle.rules.specs.Maps.{map_size, map_bytes}
 use Rattle.rules.specs.Calls.{Tables, tables_of, is_job, is_mapped, applied, release_decision, on_release}

@@ -1,13 +1,14 @@
 -- `serve` meets its contract: the search of the job's order, then the grant by the node that it chooses.
 -- Assumes nothing.
 use Prim.Native.Nat.{ℕ}
-use mathlib.Core.Path.{◌≡◌, sym, ap, ◌∙◌}
+use mathlib.Core.Path.{◌≡◌, sym, ap}
 use mathlib.Core.List.{List}
 use mathlib.Core.Option.{Option}
-use borrow.Author.Rules.{rules}
 use lib.ListN.{length}
+use Rattle.std.proofs.lemmas.Result.{err_from_is_err_and}
 use Rattle.rules.specs.SearchOrder.{Try, order, plan, chosen}
 use Rattle.rules.specs.Calls.{Tables, tables_of, Outcome, applied, serve}
+use Rattle.rules.specs.declared.Refusal.TheVariants.{NoRoom}
 use Rattle.records.specs.Jobs.{job_of, record_of}
 use Rattle.placement.specs.Searches.{chosen_by}
 use Rattle.placement.proofs.Grants.{chose}
@@ -17,18 +18,22 @@ pub grant_node-requires : goal.grant_node-requires
 grant_node-requires c = let tries : List Try = order (length c.args.counts.now) c.args.distances.now c.args.limit.0
     (plan c.args.limit.0 (record_of c.args.loaded) c.args.x.0) in
     let decoded : job_of c.job-decoded.result ≡ record_of c.args.loaded = c.job-decoded.ensures _ c.requires.3.plannable.formed in
-    let found : chosen_by c.search-chosen.result ≡ chosen c.args.free.now (tries) = rw (sym c.requires.2, ← decoded) c.search-chosen.ensures in
-    (c.requires.0, c.requires.1, chose _ _ tries _ c.requires.2 (rw c.in-At.is at found), c.requires.4)
+    let found : chosen_by c.search-found.result ≡ chosen c.args.free.now (tries) = rw (sym c.requires.2, ← decoded) c.search-found.ensures in
+    (c.requires.0, c.requires.1, chose _ _ tries _ c.requires.2 (rw c.in_ok-chosen.ensures.ok_part at found), c.requires.4)
 
 -- none is
-pub returns-in-Nothing : goal.returns-in-Nothing
+pub returns-in_err-chosen : goal.returns-in_err-chosen
 unfolding applied serve
-returns-in-Nothing c = let decoded : job_of c.job-decoded.result ≡ record_of c.args.loaded = c.job-decoded.ensures _ c.requires.3.plannable.formed in
+returns-in_err-chosen c = let decoded : job_of c.job-decoded.result ≡ record_of c.args.loaded = c.job-decoded.ensures _ c.requires.3.plannable.formed in
     let tries : List Try = order (length c.args.counts.now) c.args.distances.now c.args.limit.0 (plan c.args.limit.0 (record_of c.args.loaded) c.args.x.0) in
-    let found : chosen_by c.search-chosen.result ≡ chosen c.args.free.now (tries) = rw (sym c.requires.2, ← decoded) c.search-chosen.ensures in
+    let found : chosen_by c.search-found.result ≡ chosen c.args.free.now (tries) = rw (sym c.requires.2, ← decoded) c.search-found.ensures in
     let tables : List ℕ → Tables = λ maps. tables_of c.args.pages.now c.args.jobs.now c.args.free.now maps in
     let by : List ℕ → Option Try → Outcome = λ maps o. applied (tables maps) (serve c.args.counts.now (tables maps) c.args.job o) in
-    record {
-      did = λ maps. ap (by maps) (rw c.in-Nothing.is at found);
+    let none = c.in_err-chosen.ensures.ok_part in
+    let told = rw none at c.in_err-chosen.ensures.value in
+    let why : c.in_err-chosen.field-0.0 ≡ NoRoom = cc in
+    let exit = err_from_is_err_and c.from_residual.result c.from_residual.ensures.1 in
+    rw (exit.1, exit.2, why) (record {
+      did = λ maps. ap (by maps) (rw none at found);
       found = tt;
-    }
+    })

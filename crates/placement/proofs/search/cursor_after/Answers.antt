@@ -1,7 +1,6 @@
 -- `search::cursor_after` meets its contract.
 -- Assumes nothing.
 use native.Mathlib.Numerals.{add-one}
-use borrow.Author.Rules.{rules}
 use Rattle.placement.specs.Plans.{leaves}
 use Rattle.placement.proofs.search.cursor_after.Goals as goal
 

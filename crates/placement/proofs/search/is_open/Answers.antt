@@ -1,7 +1,6 @@
 -- `search::is_open` meets its contract: a node that the machine has not is not open.
 -- Assumes nothing.
-use borrow.Author.Rules.{rules}
-use borrow.Author.Tests.{lt-ltb, le-ltb}
+use borrow.Author.Tests.{lt-ltb}
 use Rattle.rules.specs.SearchOrder.{counted}
 use Rattle.placement.proofs.search.is_open.Goals as goal
 

@@ -1,7 +1,6 @@
 -- `search::search` meets its contract: the tries of the plan are the order.
 -- Assumes nothing.
 use mathlib.Core.Path.{sym}
-use borrow.Author.Rules.{rules}
 use Rattle.rules.specs.SearchOrder.{order}
 use Rattle.placement.proofs.search.search.Goals as goal
 

@@ -1,8 +1,7 @@
 -- `search::search_near` meets its contract: the nearest node that is counted above 0 is the first of near(x) that is.
 -- Assumes nothing.
-use mathlib.Core.Path.{◌≡◌, refl, sym, ap, ◌∙◌}
+use mathlib.Core.Path.{◌≡◌, sym, ap, ◌∙◌}
 use mathlib.Core.List.{map}
-use borrow.Author.Rules.{rules}
 use lib.ListN.{length}
 use Rattle.rules.specs.SearchOrder.{try, near, chosen}
 use Rattle.nodemask.specs.Found.{found_node}

@@ -1,20 +1,17 @@
 -- `search::search_places` meets its contract: place 0 first where the walk is early, then the round.
 -- Assumes nothing.
 use mathlib.Core.Path.{◌≡◌, sym, ◌∙◌}
-use mathlib.Core.Logic.{⊎_elim}
-use borrow.Author.Rules.{rules}
 use lib.ListN.{length}
 use Rattle.rules.specs.SearchOrder.{tried, chosen}
 use Rattle.records.specs.Jobs.{turn_of}
-use Rattle.placement.specs.Plans.{leaves, round_tries, walk_tries}
+use Rattle.placement.specs.Plans.{round_tries, walk_tries}
 use Rattle.placement.proofs.Searches.{early_first, early_rest, not_early}
 use Rattle.placement.proofs.search.search_places.Goals as goal
 use Rattle.placement.proofs.search.search_places.Goals.{else-walk, then-walk+else-is_open}
 
 -- place 0 is open
 pub returns-then-is_open : goal.returns-then-is_open
-returns-then-is_open c = let left : turn_of c.cursor_after.result ≡ leaves c.args.walk.moves (turn_of c.args.walk.cursor) 0 = c.cursor_after.ensures in
-    rw left
+returns-then-is_open c = rw c.cursor_after-cursor.ensures
     (sym (early_first _ _ _ _ _ c.if-walk.true (sym c.is_open.ensures ∙ c.if-is_open.true)))
 
 pub returns : goal.returns

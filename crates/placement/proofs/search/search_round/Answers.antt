@@ -1,17 +1,15 @@
 -- `search::search_round` meets its contract. The loop's invariant: what the places from the position on choose is the choice.
 -- Assumes nothing.
-use Prim.Native.Nat.{ℕ, ◌+◌, ◌-◌, ◌≤◌, ◌<◌}
+use Prim.Native.Nat.{◌+◌, ◌-◌, ◌<◌}
 use mathlib.Core.Path.{◌≡◌, refl, sym, ap, ◌∙◌}
-use mathlib.Core.List.{List, [], ◌∷◌, ◌++◌}
+use mathlib.Core.List.{[], ◌∷◌, ◌++◌}
 use native.Mathlib.Nat.{mod-lt}
 use native.Mathlib.Omega.{arith}
-use borrow.Author.Rules.{rules}
 use lib.ListN.{length, get_or}
 use Rattle.rules.specs.Records.{Turn}
-use Rattle.rules.specs.SearchOrder.{Try, try, tried, chosen}
+use Rattle.rules.specs.SearchOrder.{try, tried, chosen}
 use Rattle.records.specs.Jobs.{turn_of}
-use Rattle.placement.specs.declared.plan.Walk.{Walk}
-use Rattle.placement.specs.Plans.{leaves, round_tries}
+use Rattle.placement.specs.Plans.{leaves}
 use Rattle.placement.proofs.Searches.{open_first, open_rest, none_tried, round_step, round_none}
 use Rattle.placement.proofs.search.search_round.Invariants.{rest}
 use Rattle.placement.proofs.search.search_round.Goals as goal
@@ -24,7 +22,7 @@ returns-then-is_open c = let next : (after : Turn) → after ≡ leaves c.args.w
     c.args.places (c.place_at-place.result.0 + 1) (c.loop-left.left - 1) = λ after e. round_step _ _ _ _ _ _ _ _ _ _ c.loop-left-test.true
     c.place_at-place.ensures e in
     let chosen-here = sym c.is_open.ensures ∙ c.if-is_open.true in
-    sym (open_first _ _ _ _ _ chosen-here) ∙ ap (chosen _) (sym (next _ c.cursor_after.ensures)) ∙ c.loop-left.invariant.2
+    sym (open_first _ _ _ _ _ chosen-here) ∙ ap (chosen _) (sym (next _ c.cursor_after-cursor.ensures)) ∙ c.loop-left.invariant.2
 
 -- it is not
 pub loop-left-preserved : goal.loop-left-preserved

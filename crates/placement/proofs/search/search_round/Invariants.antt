@@ -1,18 +1,13 @@
 -- `search::search_round` meets its contract. The loop's invariant: what the places from the position on choose is the choice.
 -- Assumes nothing.
-use Prim.Native.Nat.{ℕ, ◌+◌, ◌-◌, ◌≤◌, ◌<◌}
-use mathlib.Core.Path.{◌≡◌, refl, sym, ap, ◌∙◌}
-use mathlib.Core.List.{List, [], ◌∷◌, ◌++◌}
-use native.Mathlib.Nat.{mod-lt}
-use native.Mathlib.Omega.{arith}
-use borrow.Author.Rules.{rules}
-use lib.ListN.{length, get_or}
-use Rattle.rules.specs.Records.{Turn}
-use Rattle.rules.specs.SearchOrder.{Try, try, tried, chosen}
+use Prim.Native.Nat.{ℕ, ◌≤◌}
+use mathlib.Core.Path.{◌≡◌}
+use mathlib.Core.List.{List}
+use lib.ListN.{length}
+use Rattle.rules.specs.SearchOrder.{Try, tried, chosen}
 use Rattle.records.specs.Jobs.{turn_of}
 use Rattle.placement.specs.declared.plan.Walk.{Walk}
-use Rattle.placement.specs.Plans.{leaves, round_tries}
-use Rattle.placement.proofs.Searches.{open_first, open_rest, none_tried, round_step, round_none}
+use Rattle.placement.specs.Plans.{round_tries}
 use Rattle.placement.proofs.search.search_round.Given as goal
 
 -- the tries from a position on

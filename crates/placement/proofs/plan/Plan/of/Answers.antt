@@ -6,7 +6,6 @@ use mathlib.Core.List.{List, ◌∷◌}
 use native.Mathlib.Nat.{lt_of_le_of_lt}
 use native.Mathlib.Numerals.{add-one}
 use native.Mathlib.Omega.{arith}
-use borrow.Author.Rules.{rules}
 use borrow.Author.Tests.{eqb-true, eqb-false}
 use lib.Bits.{and_le_l}
 use Rattle.rules.specs.Masks.{most_nodes}
