@@ -14,7 +14,6 @@ ghost use Rattle.placement.specs.Placed.{placed_as, InNode};
 use super::hinting;
 use super::placed::Placed;
 use pages;
-use pages::Found;
 use records::table;
 use rules::{MOST_NODES, Page, Refusal, SysNode};
 
@@ -68,11 +67,8 @@ pub fn mark_page(
     let part = part_of(starts, hints, node, job);
     let start = part.low.0 as usize;
     let end = part.end.0 as usize;
-    let found = pages::pick(&mut pages[start..end], part.ahead, part.colour, job + 1);
-    match found {
-        Found::At(offset) => Some(offset.after(part.low)),
-        Found::Full => None,
-    }
+    let offset = pages::pick(&mut pages[start..end], part.ahead, part.colour, job + 1)?;
+    Some(offset.after(part.low))
 }
 
 // Grants by the chosen node: the page is marked, the cursor stored and the count taken down by one. 14 where it has no free page.

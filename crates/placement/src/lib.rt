@@ -20,13 +20,12 @@ ghost use Rattle.placement.specs.Placed.{placed_as, InNode, release_tests};
 
 use machine;
 use machine::Located;
-use maps::judging::Judged;
 use maps::{judging, turning};
 use nodemask::Mask;
 use placed::Placed;
 use records::record::Record;
 use records::table;
-use rules::{Answer, MOST_NODES, Page, Refusal, SysNode};
+use rules::{Answer, Effect, MOST_NODES, Page, Refusal, SysNode};
 
 pub mod grant;
 pub mod hinting;
@@ -111,11 +110,10 @@ pub fn admit(
         return Err(Refusal::NoSuchJob);
     }
     let nodes = counts.len();
-    let judged = judging::judge(nodes, turning::of_job(maps, job));
-    match judged {
-        Judged::Good(set, _) => admit_mapped(nodes, cpus.len(), jobs, set, job, cpu),
-        Judged::Bad => Err(Refusal::BadMap),
-    }
+    let Some(map) = judging::judge(nodes, turning::of_job(maps, job)) else {
+        return Err(Refusal::BadMap);
+    };
+    admit_mapped(nodes, cpus.len(), jobs, map.set, job, cpu)
 }
 
 // The first node in the order that is counted above 0 grants: a request that has passed its tests, from a CPU on node x.
@@ -202,7 +200,7 @@ pub fn request(
     ensures { outcome (answer_of result) (tables_of pages.new jobs.new free.new maps.now) ≡ on_request (machine_of counts.now cpus.now distances.now) (tables_of pages.old jobs.old free.old maps.now) job cpu }
 {
     if !machine::machine_ok(counts, cpus, distances) {
-        return Answer::Refused(Refusal::BadTables);
+        return Err(Refusal::BadTables);
     }
     let starts = machine::starts_of(counts);
     let total = machine::pages_end(counts, &starts);
@@ -214,7 +212,7 @@ pub fn request(
         free.len(),
         maps.len(),
     ) {
-        return Answer::Refused(Refusal::BadTables);
+        return Err(Refusal::BadTables);
     }
     let placed = request_at(
         counts,
@@ -282,11 +280,10 @@ fn release_located(
     if !table::has_job(jobs.len(), job) {
         return Err(Refusal::NoSuchJob);
     }
-    let judged = judging::judge(counts.len(), turning::of_job(maps, job));
-    match judged {
-        Judged::Good(_, _) => release_held(counts, pages, free, job, page, at),
-        Judged::Bad => Err(Refusal::BadMap),
-    }
+    let Some(_) = judging::judge(counts.len(), turning::of_job(maps, job)) else {
+        return Err(Refusal::BadMap);
+    };
+    release_held(counts, pages, free, job, page, at)
 }
 
 // A release on tables that are in order.
@@ -326,7 +323,7 @@ pub fn release(
     ensures { outcome (answer_of result) (tables_of pages.new jobs.now free.new maps.now) ≡ on_release counts.now (tables_of pages.old jobs.now free.old maps.now) job page }
 {
     if !machine::counts_ok(counts) {
-        return Answer::Refused(Refusal::BadTables);
+        return Err(Refusal::BadTables);
     }
     let at = machine::locate(counts, page);
     let fits = lent_ok(
@@ -338,7 +335,7 @@ pub fn release(
         maps.len(),
     );
     if !((at.total <= 1_048_576) & fits) {
-        return Answer::Refused(Refusal::BadTables);
+        return Err(Refusal::BadTables);
     }
     let placed = release_located(counts, pages, jobs, free, maps, job, page, at);
     placed::tell(maps, job, placed)
@@ -382,7 +379,7 @@ pub fn fresh_at(
     let total = machine::pages_end(counts, starts);
     clear_bytes(&mut pages[..total]);
     copy_counts(counts, free);
-    Answer::Done
+    Ok(Effect::Done)
 }
 
 // The fresh table: every page of the machine becomes free, and the counts are made. Refusal 1 alone.
@@ -390,12 +387,12 @@ pub fn fresh(counts: &[u32], pages: &mut [u8], free: &mut [u32]) -> Answer
     ensures { (t : Tables) → outcome (answer_of result) (with_pages t pages.new free.new) ≡ on_fresh counts.now (with_pages t pages.old free.old) }
 {
     if !machine::page_counts_ok(counts) {
-        return Answer::Refused(Refusal::BadTables);
+        return Err(Refusal::BadTables);
     }
     let starts = machine::starts_of(counts);
     let total = machine::pages_end(counts, &starts);
     if !pages_ok(counts.len(), total, pages.len(), free.len()) {
-        return Answer::Refused(Refusal::BadTables);
+        return Err(Refusal::BadTables);
     }
     fresh_at(counts, &starts, pages, free)
 }

@@ -6,7 +6,7 @@ ghost use Rattle.rules.specs.Maps.{map_bytes, nodes_in};
 ghost use Rattle.placement.specs.Placed.{placed_as, HasMap};
 
 use maps::turning;
-use rules::{Answer, Page, Refusal, SysNode};
+use rules::{Answer, Effect, Page, Refusal, SysNode};
 
 // A page that is granted or released, with its node.
 #[derive(Clone, Copy)]
@@ -20,15 +20,14 @@ pub fn tell(maps: &[u8], job: usize, placed: Result<Placed, Refusal>) -> Answer
     requires { HasMap (length maps.now) job placed }
     ensures { answer_of result ≡ placed_as (nodes_in (map_bytes maps.now job)) placed }
 {
-    match placed {
-        Ok(Placed::Granted(node, page)) => {
+    match placed? {
+        Placed::Granted(node, page) => {
             let bytes = turning::of_job(maps, job);
-            Answer::Granted(turning::named(bytes, node), page)
+            Ok(Effect::Granted(turning::named(bytes, node), page))
         }
-        Ok(Placed::Released(node, page)) => {
+        Placed::Released(node, page) => {
             let bytes = turning::of_job(maps, job);
-            Answer::Released(turning::named(bytes, node), page)
+            Ok(Effect::Released(turning::named(bytes, node), page))
         }
-        Err(why) => Answer::Refused(why),
     }
 }

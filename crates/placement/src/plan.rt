@@ -6,7 +6,7 @@ ghost use Rattle.rules.specs.SearchOrder.{try, listed, plan};
 ghost use Rattle.records.specs.Jobs.{turn_of, job_of};
 ghost use Rattle.placement.specs.Plans.{walk_with, plan_of, Plannable, Inside};
 
-use nodemask::{Found, Mask};
+use nodemask::Mask;
 use records::job::{Job, Mode};
 use rules;
 use rules::{PLACES_PER_JOB, SysNode};
@@ -51,7 +51,7 @@ impl Plan {
         ensures inside { (n : ℕ) → x.0 < n → Inside n result }
     {
         let walk = Walk::with(false, false, len, 0);
-        if rules::closes(places, len as usize) {
+        if rules::closes(&places[..len as usize]) {
             return Plan::Closed(walk, x);
         }
         Plan::Places(walk)
@@ -79,10 +79,9 @@ impl Plan {
                 Plan::Near(limit.both(effective), x, 0)
             }
             Mode::Interleave(_, _, effective, cursor) => {
-                let target = effective.target(cursor);
-                match target {
-                    Found::At(node) => Plan::Near(limit, node, node.0 + 1),
-                    Found::Nothing => Plan::Near(limit, x, cursor),
+                match effective.target(cursor) {
+                    Some(node) => Plan::Near(limit, node, node.0 + 1),
+                    None => Plan::Near(limit, x, cursor),
                 }
             }
             Mode::List(len) => {

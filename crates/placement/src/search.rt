@@ -12,7 +12,7 @@ ghost use Rattle.placement.specs.Plans.{leaves, round_tries, walk_tries};
 
 use super::plan::{Plan, Walk};
 use machine;
-use nodemask::{Found, Mask};
+use nodemask::Mask;
 use records::job::Job;
 use rules::{PLACES_PER_JOB, Place, SysNode};
 
@@ -41,11 +41,8 @@ fn search_near(free: &[u32], distances: &[u8], set: Mask, x: SysNode, cursor: u8
     requires { Nearable (length free.now) distances.now set.0 x.0 }
     ensures { chosen_by result ≡ chosen free.now (map (try (turn_of cursor)) (near (length free.now) distances.now set.0 x.0)) }
 {
-    let found = machine::nearest(free.len(), distances, free, set, x);
-    match found {
-        Found::At(node) => Some(Chosen { node, cursor }),
-        Found::Nothing => None,
-    }
+    let node = machine::nearest(free.len(), distances, free, set, x)?;
+    Some(Chosen { node, cursor })
 }
 
 // ---- by places

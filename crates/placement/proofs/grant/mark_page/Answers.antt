@@ -26,9 +26,9 @@ part_of-part-requires c = let counts : List ℕ = c.args.counts.now in
     (omega (arith, c.requires.1)) ∙ pages_step (counts) (node) in
     (omega (arith, c.requires.1, c.requires.0.few), omega (arith, first-is, end_is))
 
-pub pick-found-requires : goal.pick-found-requires
+pub pick-requires : goal.pick-requires
 unfolding has_colour
-pick-found-requires c = let counts : List ℕ = c.args.counts.now in
+pick-requires c = let counts : List ℕ = c.args.counts.now in
     let ledger : List ℕ = c.args.pages.now in
     let node : ℕ = c.args.node.0 in
     let low : ℕ = c.part_of-part.result.low.0 in
@@ -74,16 +74,16 @@ after-requires c = let counts : List ℕ = c.args.counts.now in
     (omega (arith, b, ends)) (inl refl) (c.part_of-part.ensures.passed q (omega (arith, a, first-is)) b) in
     let own : ℕ = part_colour c.args.job (first_page (counts) (node)) (low) in
     let colour-is : c.part_of-part.result.colour ≡ own = c.part_of-part.ensures.colour ∙ ap (λ (a : ℕ). part_colour c.args.job a (low)) (first-is) in
-    let told : Picked (counts) (ledger) c.args.job (node) (low) (size) (offset_of c.pick-found.result) c.pick-found.new.part = let part = take (size)
+    let told : Picked (counts) (ledger) c.args.job (node) (low) (size) (offset_of c.pick.result) c.pick.new.part = let part = take (size)
     (drop (low) (ledger)) in
     picked (counts) (ledger) c.args.job (node) (low) (size) c.requires.0.fits (after) (ends) (held) _ _
-    (c.pick-found.ensures.answer ∙ ap (λ (x : ℕ). pick_of x part) (colour-is))
-    (c.pick-found.ensures.table ∙ ap (λ (x : ℕ). mark part (pick_of x part) (c.args.job + 1)) (colour-is)) in
-    let within = rw c.in-At.is at told.inside in
+    (c.pick.ensures.answer ∙ ap (λ (x : ℕ). pick_of x part) (colour-is))
+    (c.pick.ensures.table ∙ ap (λ (x : ℕ). mark part (pick_of x part) (c.args.job + 1)) (colour-is)) in
+    let within = rw c.in_ok-offset.was at told.inside in
     omega (arith, within, ends, node_end counts node, c.requires.0.pages)
 
-pub returns-in-At : goal.returns-in-At
-returns-in-At c = let counts : List ℕ = c.args.counts.now in
+pub returns : goal.returns
+returns c = let counts : List ℕ = c.args.counts.now in
     let ledger : List ℕ = c.args.pages.now in
     let node : ℕ = c.args.node.0 in
     let low : ℕ = c.part_of-part.result.low.0 in
@@ -98,19 +98,19 @@ returns-in-At c = let counts : List ℕ = c.args.counts.now in
     (omega (arith, b, ends)) (inl refl) (c.part_of-part.ensures.passed q (omega (arith, a, first-is)) b) in
     let own : ℕ = part_colour c.args.job (first_page (counts) (node)) (low) in
     let colour-is : c.part_of-part.result.colour ≡ own = c.part_of-part.ensures.colour ∙ ap (λ (a : ℕ). part_colour c.args.job a (low)) (first-is) in
-    let told : Picked (counts) (ledger) c.args.job (node) (low) (size) (offset_of c.pick-found.result) c.pick-found.new.part = let part = take (size)
+    let told : Picked (counts) (ledger) c.args.job (node) (low) (size) (offset_of c.pick.result) c.pick.new.part = let part = take (size)
     (drop (low) (ledger)) in
     picked (counts) (ledger) c.args.job (node) (low) (size) c.requires.0.fits (after) (ends) (held) _ _
-    (c.pick-found.ensures.answer ∙ ap (λ (x : ℕ). pick_of x part) (colour-is))
-    (c.pick-found.ensures.table ∙ ap (λ (x : ℕ). mark part (pick_of x part) (c.args.job + 1)) (colour-is)) in
+    (c.pick.ensures.answer ∙ ap (λ (x : ℕ). pick_of x part) (colour-is))
+    (c.pick.ensures.table ∙ ap (λ (x : ℕ). mark part (pick_of x part) (c.args.job + 1)) (colour-is)) in
     let t = told in
     record {
-      answer = rw c.after.ensures (rw c.in-At.is at t.answer);
-      table = rw c.after.ensures (rw c.in-At.is at t.table);
+      answer = rw c.after.ensures (rw c.in_ok-offset.was at t.answer);
+      table = rw c.after.ensures (rw c.in_ok-offset.was at t.table);
     }
 
-pub returns-in-Full : goal.returns-in-Full
-returns-in-Full c = let counts : List ℕ = c.args.counts.now in
+pub returns-in_err-offset : goal.returns-in_err-offset
+returns-in_err-offset c = let counts : List ℕ = c.args.counts.now in
     let ledger : List ℕ = c.args.pages.now in
     let node : ℕ = c.args.node.0 in
     let low : ℕ = c.part_of-part.result.low.0 in
@@ -125,15 +125,15 @@ returns-in-Full c = let counts : List ℕ = c.args.counts.now in
     (omega (arith, b, ends)) (inl refl) (c.part_of-part.ensures.passed q (omega (arith, a, first-is)) b) in
     let own : ℕ = part_colour c.args.job (first_page (counts) (node)) (low) in
     let colour-is : c.part_of-part.result.colour ≡ own = c.part_of-part.ensures.colour ∙ ap (λ (a : ℕ). part_colour c.args.job a (low)) (first-is) in
-    let told : Picked (counts) (ledger) c.args.job (node) (low) (size) (offset_of c.pick-found.result) c.pick-found.new.part = let part = take (size)
+    let told : Picked (counts) (ledger) c.args.job (node) (low) (size) (offset_of c.pick.result) c.pick.new.part = let part = take (size)
     (drop (low) (ledger)) in
     picked (counts) (ledger) c.args.job (node) (low) (size) c.requires.0.fits (after) (ends) (held) _ _
-    (c.pick-found.ensures.answer ∙ ap (λ (x : ℕ). pick_of x part) (colour-is))
-    (c.pick-found.ensures.table ∙ ap (λ (x : ℕ). mark part (pick_of x part) (c.args.job + 1)) (colour-is)) in
+    (c.pick.ensures.answer ∙ ap (λ (x : ℕ). pick_of x part) (colour-is))
+    (c.pick.ensures.table ∙ ap (λ (x : ℕ). mark part (pick_of x part) (c.args.job + 1)) (colour-is)) in
     let t = told in
     record {
-      answer = rw c.in-Full.is at t.answer;
-      table = rw c.in-Full.is at t.table;
+      answer = rw c.from_residual.ensures (rw c.in_err-offset.was at t.answer);
+      table = rw c.from_residual.ensures (rw c.in_err-offset.was at t.table);
     }
 
 -- 'part-pick-end', 'add-pick', 'pick-requires', 'enum-known-found', 'after-requires', 'enum-told', 'same-length', 'returns', 'same-length2',

@@ -9,14 +9,14 @@ use Rattle.records.specs.Jobs.{turn_of}
 use Rattle.placement.proofs.Searches.{try_at, near_chosen}
 use Rattle.placement.proofs.search.search_near.Goals as goal
 
-pub returns-in-At : goal.returns-in-At
-returns-in-At c = let found : try_at (turn_of c.args.cursor) (found_node c.nearest-found.result) ≡ chosen c.args.free.now
+pub returns : goal.returns
+returns c = let found : try_at (turn_of c.args.cursor) (found_node c.nearest.result) ≡ chosen c.args.free.now
     (map (try (turn_of c.args.cursor)) (near (length c.args.free.now) c.args.distances.now c.args.set.0 c.args.x.0)) = ap
-    (try_at (turn_of c.args.cursor)) c.nearest-found.ensures ∙ sym (near_chosen _ _ _) in
-    rw c.in-At.is at found
+    (try_at (turn_of c.args.cursor)) c.nearest.ensures ∙ sym (near_chosen _ _ _) in
+    rw c.in_ok-node.was at found
 
-pub returns-in-Nothing : goal.returns-in-Nothing
-returns-in-Nothing c = let found : try_at (turn_of c.args.cursor) (found_node c.nearest-found.result) ≡ chosen c.args.free.now
+pub returns-in_err-node : goal.returns-in_err-node
+returns-in_err-node c = let found : try_at (turn_of c.args.cursor) (found_node c.nearest.result) ≡ chosen c.args.free.now
     (map (try (turn_of c.args.cursor)) (near (length c.args.free.now) c.args.distances.now c.args.set.0 c.args.x.0)) = ap
-    (try_at (turn_of c.args.cursor)) c.nearest-found.ensures ∙ sym (near_chosen _ _ _) in
-    rw c.in-Nothing.is at found
+    (try_at (turn_of c.args.cursor)) c.nearest.ensures ∙ sym (near_chosen _ _ _) in
+    rw c.from_residual.ensures (rw c.in_err-node.was at found)

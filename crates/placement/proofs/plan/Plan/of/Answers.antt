@@ -47,9 +47,9 @@ returns-then-is_empty-2 c = let held : Mode → Record = λ m. record_with (carr
     let both = local _ c.in-Bind.is refl (omega arith) z in
     record { as_ruled = both.0; inside = both.1 }
 
-pub target-target-requires : goal.target-target-requires
+pub target-requires : goal.target-requires
 unfolding record_with row_of cursor_limit job_of
-target-target-requires c = let held : Mode → Record = λ m. record_with (carried_in m) c.args.job.allowed.0 c.args.job.places in
+target-requires c = let held : Mode → Record = λ m. record_with (carried_in m) c.args.job.allowed.0 c.args.job.places in
     let known : (m : Mode) → c.args.job.mode ≡ m → Formed c.args.nodes (held m) = λ m e. formed _ _ (rw e at c.requires.formed) in
     omega (arith, (known _ c.in-Interleave.is).cursor_within, c.requires.few)
 
@@ -57,9 +57,9 @@ pub overflow_add-result : goal.overflow_add-result
 unfolding record_with job_of
 overflow_add-result c = let held : Mode → Record = λ m. record_with (carried_in m) c.args.job.allowed.0 c.args.job.places in
     let known : (m : Mode) → c.args.job.mode ≡ m → Formed c.args.nodes (held m) = λ m e. formed _ _ (rw e at c.requires.formed) in
-    let aimed : found_node c.target-target.result ≡ target c.in-Interleave.effective.0 c.in-Interleave.cursor = c.target-target.ensures in
+    let aimed : found_node c.target.result ≡ target c.in-Interleave.effective.0 c.in-Interleave.cursor = c.target.ensures in
     let low = effective_lt c.args.nodes _ c.requires.few (known _ c.in-Interleave.is) in
-    omega (arith, target_below c.args.nodes _ _ low (sym aimed ∙ ap found_node c.in-At.is), c.requires.few)
+    omega (arith, target_below c.args.nodes _ _ low (sym aimed ∙ ap found_node c.in-Some.is), c.requires.few)
 
 pub returns-in-Default : goal.returns-in-Default
 unfolding job_of record_with
@@ -91,12 +91,12 @@ returns-else-is_empty-2 c = let d = eqb-false _ 0 (sym c.is_empty-in-Bind.ensure
     }
 
 -- interleave
-pub returns-in-At : goal.returns-in-At
+pub returns-in-Some : goal.returns-in-Some
 unfolding job_of record_with
-returns-in-At c = let held : Mode → Record = λ m. record_with (carried_in m) c.args.job.allowed.0 c.args.job.places in
+returns-in-Some c = let held : Mode → Record = λ m. record_with (carried_in m) c.args.job.allowed.0 c.args.job.places in
     let known : (m : Mode) → c.args.job.mode ≡ m → Formed c.args.nodes (held m) = λ m e. formed _ _ (rw e at c.requires.formed) in
-    let aimed : found_node c.target-target.result ≡ target c.in-Interleave.effective.0 c.in-Interleave.cursor = c.target-target.ensures in
-    let aim = sym aimed ∙ ap found_node c.in-At.is in
+    let aimed : found_node c.target.result ≡ target c.in-Interleave.effective.0 c.in-Interleave.cursor = c.target.ensures in
+    let aim = sym aimed ∙ ap found_node c.in-Some.is in
     let low = effective_lt _ _ c.requires.few (known _ c.in-Interleave.is) in
     rw (c.in-Interleave.is, add-one) record {
       as_ruled = sym (interleave_plan 0 _ _ _ (some_target _ _ aim) refl aim);
@@ -104,16 +104,16 @@ returns-in-At c = let held : Mode → Record = λ m. record_with (carried_in m) 
     }
 
 -- interleave, with no effective node
-pub returns-in-Nothing : goal.returns-in-Nothing
+pub returns-in-None : goal.returns-in-None
 unfolding record_with row_of cursor_limit job_of
-returns-in-Nothing c = let held : Mode → Record = λ m. record_with (carried_in m) c.args.job.allowed.0 c.args.job.places in
+returns-in-None c = let held : Mode → Record = λ m. record_with (carried_in m) c.args.job.allowed.0 c.args.job.places in
     let known : (m : Mode) → c.args.job.mode ≡ m → Formed c.args.nodes (held m) = λ m e. formed _ _ (rw e at c.requires.formed) in
     let local : (m : Mode) → c.args.job.mode ≡ m → carries (mode_of (held m).mode) ≡ aMask → (held m).user < 2 ^ most_nodes → (held m).effective ≡ 0
     → (nearest c.args.limit.0 c.args.x.0 (held m).turn ≡ plan c.args.limit.0 (job_of c.args.job) c.args.x.0) ×
     ((c.args.limit.0 < 2 ^ c.args.nodes) × (c.args.x.0 < c.args.nodes)) = λ m e mask word z. rw e
     (sym (none_effective _ _ _ _ c.requires.few (known _ e) mask word z), (c.requires.limit_below, c.requires.from_node)) in
-    let aimed : found_node c.target-target.result ≡ target c.in-Interleave.effective.0 c.in-Interleave.cursor = c.target-target.ensures in
-    let aim = sym aimed ∙ ap found_node c.in-Nothing.is in
+    let aimed : found_node c.target.result ≡ target c.in-Interleave.effective.0 c.in-Interleave.cursor = c.target.ensures in
+    let aim = sym aimed ∙ ap found_node c.in-None.is in
     let z = no_target c.args.nodes _ _ c.requires.few (effective_lt _ _ c.requires.few (known _ c.in-Interleave.is))
     (known _ c.in-Interleave.is).cursor_within aim in
     let both = local _ c.in-Interleave.is refl (omega arith) z in
