@@ -1,18 +1,14 @@
 -- `drain_at` meets its contract: each refusal in its turn, or the drain by the order that is listed.
 -- Assumes nothing.
 use Prim.Native.Nat.{ℕ, ◌-◌, ◌≤◌, ◌<◌}
-use mathlib.Core.Path.{◌≡◌, refl, sym, ap, subst, ◌∙◌}
+use mathlib.Core.Path.{◌≡◌, sym, subst, ◌∙◌}
 use mathlib.Core.Bool.{true, false}
-use mathlib.Core.List.{List}
 use native.Mathlib.Omega.{arith}
-use borrow.Author.Rules.{rules}
-use borrow.Author.Tests.{not-true, not-false}
 use lib.ListN.{length, take, drop}
 use Rattle.rules.specs.Masks.{most_nodes, all_nodes}
 use Rattle.rules.specs.SearchOrder.{near, free_counts}
-use Rattle.rules.specs.Decisions.{refuse}
 use Rattle.rules.specs.Calls.{Tables, tables_of}
-use Rattle.rules.specs.Drain.{counts_match, moves_within, drain_moves}
+use Rattle.rules.specs.Drain.{counts_match}
 use Rattle.rules.proofs.Lists.{same_lists}
 use Rattle.machine.specs.Listing.{Listed}
 use Rattle.drain.specs.Goals.{near_others}

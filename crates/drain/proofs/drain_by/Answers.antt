@@ -1,18 +1,14 @@
 -- `drain_by` meets its contract: 17, 11, or all moves.
 -- Assumes nothing.
-use Prim.Native.Nat.{ℕ, ◌-◌, ◌*◌, ◌≤◌, ◌<◌}
-use mathlib.Core.Path.{◌≡◌, refl, sym, ap, ◌∙◌}
+use Prim.Native.Nat.{ℕ, ◌-◌, ◌≤◌}
+use mathlib.Core.Path.{◌≡◌, sym, ap}
 use mathlib.Core.List.{List}
 use native.Mathlib.Omega.{arith}
-use borrow.Author.Rules.{rules}
-use borrow.Author.Tests.{not-true, not-false}
 use lib.ListN.{length, get_or}
 use Rattle.rules.specs.Decisions.{Decision, refuse, accept}
 use Rattle.rules.specs.Calls.{Tables, tables_of}
 use Rattle.rules.specs.Drain.{Move, held_pages, moves, moves_within}
-use Rattle.placement.proofs.Grants.{node_end}
 use Rattle.drain.specs.Goals.{near_others}
-use Rattle.drain.specs.Outcomes.{count_of, tables_after, pairs_after}
 use Rattle.drain.proofs.Reached.{moves_count}
 use Rattle.drain.proofs.Within.{stuck, all_moved, within_17, within_11, within_ok, count_low}
 use Rattle.drain.proofs.drain_by.Goals as goal

@@ -2,9 +2,7 @@
 -- Assumes nothing.
 use Prim.Native.Nat.{◌+◌, ◌-◌, ◌*◌, ◌≤◌}
 use mathlib.Core.Path.{◌≡◌, sym, ap, subst, ◌∙◌}
-use mathlib.Core.Bool.{true, false}
-use borrow.Author.Rules.{rules}
-use borrow.Author.Tests.{not-true, not-false, ltb-true}
+use mathlib.Core.Bool.{true}
 use lib.ListN.{length}
 use Rattle.rules.specs.Masks.{both}
 use Rattle.rules.specs.Records.{record_at}
@@ -15,7 +13,7 @@ use Rattle.rules.proofs.Kept.{mapped_nodes}
 use Rattle.rules.proofs.Maps.{map_long}
 use Rattle.maps.specs.Judging.{Judges}
 use Rattle.maps.specs.declared.judging.Judged.TheVariants.{Good}
-use Rattle.placement.specs.Admissions.{admission_of, LimitIs, admit_tests}
+use Rattle.placement.specs.Admissions.{admission_of, LimitIs}
 use Rattle.drain.proofs.Holders.{admitted_formed, refused_malformed, no_job_lem, bad_map_lem, malformed, holder}
 use Rattle.drain.proofs.goals.holder_of.Goals as goal
 

@@ -5,13 +5,11 @@ use mathlib.Core.Path.{◌≡◌, sym, ap, ◌∙◌}
 use mathlib.Core.List.{List}
 use mathlib.Core.Option.{some}
 use native.Mathlib.Omega.{arith}
-use borrow.Author.Rules.{rules}
 use lib.ListN.{length, set, length-set}
-use Rattle.rules.proofs.Pages.{page_node_lt}
 use Rattle.pages.specs.FirstZero.{mark}
 use Rattle.placement.specs.Grants.{page_by, page_for}
 use Rattle.placement.specs.declared.grant.Marked.{Marked}
-use Rattle.drain.proofs.Carried.{old_page, old_inside, old_named, never_full, taken, new_named, both_written, both_hinted}
+use Rattle.drain.proofs.Carried.{old_inside, old_named, never_full, taken, new_named, both_written, both_hinted}
 use Rattle.drain.proofs.moving.carry.Goals as goal
 
 pub keep-requires : goal.keep-requires
