@@ -159,7 +159,7 @@ module _ (counts distances : List ℕ) (x : ℕ) (start : Tables) (few : length 
 -- ---- the part of the page table that has a node's pages
 
 module _ {counts starts ledger : List ℕ} (p : Paged counts starts ledger) (n : ℕ) (l : n < length counts) where
-  abbrev part_of : List ℕ
+  abbrev pub part_of : List ℕ
   part_of = take (get_or starts (n + 1) 0 - get_or starts n 0) (drop (get_or starts n 0) ledger)
 
   size : get_or starts (n + 1) 0 - get_or starts n 0 ≡ get_or counts n 0

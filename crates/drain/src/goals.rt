@@ -166,25 +166,7 @@ fn all_pass(
     true
 }
 
-// The same, by counts that are copied first: nothing but the copy is written.
-fn all_pass_by(
-    nodes: usize,
-    order: &[u8],
-    jobs: &[u64],
-    maps: &[u8],
-    free: &[u32],
-    copy: &mut [u32],
-    x: SysNode,
-    part: &[u8],
-) -> bool
-    requires { (mapped_tables_ok nodes (length jobs.now) (length maps.now) ≡ true) × Ordered nodes x.0 order.now free.now × (get_or free.now x.0 0 + length part.now ≤ 4294967295) × (length copy.old ≡ length free.now) }
-    ensures { result ≡ passes nodes order.now jobs.now maps.now x.0 free.now part.now }
-{
-    placement::copy_counts(free, copy);
-    all_pass(nodes, order, jobs, maps, copy, x, part)
-}
-
-// Has every held page of node x somewhere to go?
+// Has every held page of node x somewhere to go? By counts of its own, so that nothing is written.
 pub fn all_go(
     counts: &[u32],
     starts: &[u32; MOST_NODES + 1],
@@ -199,17 +181,10 @@ pub fn all_go(
     ensures { (distances : List ℕ) → order.now ≡ near_others (length counts.now) distances x.0 → Goes result (moves counts.now distances x.0 (tables_of pages.now jobs.now free.now maps.now) (held_pages counts.now pages.now x.0)) }
 {
     let nodes = counts.len();
-    let mut copy = [0u32; MOST_NODES];
     let start = starts[x.0 as usize] as usize;
     let end = starts[x.0 as usize + 1] as usize;
-    all_pass_by(
-        nodes,
-        order,
-        jobs,
-        maps,
-        free,
-        &mut copy[..nodes],
-        x,
-        &pages[start..end],
-    )
+    let mut copies = [0u32; MOST_NODES];
+    let copy = &mut copies[..nodes];
+    copy.copy_from_slice(free);
+    all_pass(nodes, order, jobs, maps, copy, x, &pages[start..end])
 }

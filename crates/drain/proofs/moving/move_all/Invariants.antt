@@ -1,4 +1,4 @@
--- `moving::move_all` meets its contract. The loop: the pages of x before page i are gone through.
+-- `moving::move_all` meets its contract. The loop: the pages of x before `page` are gone through.
 -- Assumes nothing.
 use lib.ListN.{length}
 use Rattle.rules.specs.Calls.{tables_of}
