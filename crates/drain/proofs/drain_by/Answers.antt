@@ -14,7 +14,8 @@ use Rattle.drain.proofs.drain_by.Goals as goal
 pub returns-then-not-all_go : goal.returns-then-not-all_go
 returns-then-not-all_go c = let tables : Tables = tables_of c.args.pages.now c.args.jobs.now c.args.free.now c.args.maps.now in
     let IsOrder : List ℕ → Type 0 = λ distances. c.args.order.now ≡ near_others (length c.args.counts.now) distances c.args.x.0 in
-    let is-17 = λ (distances : List ℕ) (e : IsOrder distances). within_17 tables c.requires.maps_value.1 distances c.args.room (c.all_go.ensures distances e) c.if-not-all_go.true in
+    let is-17 = λ (distances : List ℕ) (e : IsOrder distances).
+    within_17 tables c.requires.maps_value.1 distances c.args.room (c.all_go.ensures distances e) c.if-not-all_go.true in
     record {
       answer = λ distances e. rw (is-17 distances e);
       tables = λ distances e. rw (is-17 distances e);
@@ -25,7 +26,8 @@ returns-then-not-all_go c = let tables : Tables = tables_of c.args.pages.now c.a
 pub returns-then-room-moves : goal.returns-then-room-moves
 returns-then-room-moves c = let tables : Tables = tables_of c.args.pages.now c.args.jobs.now c.args.free.now c.args.maps.now in
     let IsOrder : List ℕ → Type 0 = λ distances. c.args.order.now ≡ near_others (length c.args.counts.now) distances c.args.x.0 in
-    let is-11 = λ (distances : List ℕ) (e : IsOrder distances). within_11 tables c.requires.maps_value.1 distances c.args.room (c.all_go.ensures distances e) c.if-not-all_go.false
+    let is-11 = λ (distances : List ℕ) (e : IsOrder distances).
+    within_11 tables c.requires.maps_value.1 distances c.args.room (c.all_go.ensures distances e) c.if-not-all_go.false
     c.if-room-moves.true in
     record {
       answer = λ distances e. rw (is-11 distances e);
@@ -37,8 +39,10 @@ returns-then-room-moves c = let tables : Tables = tables_of c.args.pages.now c.a
 pub returns : goal.returns
 returns c = let tables : Tables = tables_of c.args.pages.now c.args.jobs.now c.args.free.now c.args.maps.now in
     let IsOrder : List ℕ → Type 0 = λ distances. c.args.order.now ≡ near_others (length c.args.counts.now) distances c.args.x.0 in
-    let all = λ (distances : List ℕ) (e : IsOrder distances). all_moved tables c.requires.maps_value.1 distances c.args.room (c.all_go.ensures distances e) c.if-not-all_go.false in
-    let is-ok = λ (distances : List ℕ) (e : IsOrder distances). within_ok tables c.requires.maps_value.1 distances c.args.room (c.all_go.ensures distances e) c.if-not-all_go.false
+    let all = λ (distances : List ℕ) (e : IsOrder distances).
+    all_moved tables c.requires.maps_value.1 distances c.args.room (c.all_go.ensures distances e) c.if-not-all_go.false in
+    let is-ok = λ (distances : List ℕ) (e : IsOrder distances).
+    within_ok tables c.requires.maps_value.1 distances c.args.room (c.all_go.ensures distances e) c.if-not-all_go.false
     c.if-room-moves.false in
     let done = c.move_all.ensures in record {
       answer = λ distances e. rw (is-ok distances e) (ap accept (sym (all distances e).2));
