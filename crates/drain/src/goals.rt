@@ -41,15 +41,11 @@ fn holder_of(nodes: usize, jobs: &[u64], maps: &[u8], byte: u8) -> Option<Mask>
     if !table::has_job(jobs.len(), job) {
         return None;
     }
-    let judged = judging::judge(nodes, turning::of_job(maps, job));
-    match judged {
-        Judged::Good(set, _) => {
-            let admission = placement::admit_mapped(nodes, 1, jobs, set, job, 0);
-            match admission {
-                Admission::Passed(_, limit) => Some(limit),
-                Admission::Refused(_) => None,
-            }
-        }
+    match judging::judge(nodes, turning::of_job(maps, job)) {
+        Judged::Good(set, _) => match placement::admit_mapped(nodes, 1, jobs, set, job, 0) {
+            Admission::Passed(_, limit) => Some(limit),
+            Admission::Refused(_) => None,
+        },
         Judged::Bad => None,
     }
 }

@@ -37,8 +37,7 @@ fn carry(
     ensures kept { Hints counts.now pages.new hints.new }
 {
     let job = byte - 1;
-    let marked = grant::mark_page(counts, starts, &hints[..], pages, node, job);
-    match marked {
+    match grant::mark_page(counts, starts, &hints[..], pages, node, job) {
         Marked::At(new) => {
             hinting::keep(starts, hints, job as usize, Placed::Granted(node, new));
             pages[page.0 as usize] = 0;

@@ -12,13 +12,13 @@ use Rattle.drain.proofs.drain.Goals.{After-lent_ok}
 -- the page counts break the rules
 pub returns-then-not-page_counts_ok : goal.returns-then-not-page_counts_ok
 returns-then-not-page_counts_ok c = let tables : Tables = tables_of c.args.pages.now c.args.jobs.now c.args.free.now c.args.maps.now in
-    let bad = bad_counts c.args.counts.now c.args.distances.now tables (sym c.page_counts_ok.ensures ∙ c.if-not-page_counts_ok.true) in
+    let bad = bad_counts c.args.counts.now c.args.distances.now tables (sym c.if-not-page_counts_ok.ensures) in
     drain_refused c.args.counts.now c.args.distances.now c.args.node tables c.args.out.now (moves_1 _ _ tables c.args.node _ bad)
 
 -- the distances break the rules
 pub returns-then-not-distances_ok : goal.returns-then-not-distances_ok
 returns-then-not-distances_ok c = let tables : Tables = tables_of c.args.pages.now c.args.jobs.now c.args.free.now c.args.maps.now in
-    let bad = bad_distances c.args.counts.now c.args.distances.now tables (sym c.distances_ok.ensures ∙ c.if-not-distances_ok.true) in
+    let bad = bad_distances c.args.counts.now c.args.distances.now tables (sym c.if-not-distances_ok.ensures) in
     drain_refused c.args.counts.now c.args.distances.now c.args.node tables c.args.out.now (moves_1 _ _ tables c.args.node _ bad)
 
 -- what is lent is in order exactly if the law says so
@@ -26,7 +26,7 @@ tested : (c : After-lent_ok) → c.lent_ok.result ≡ drain_tables_ok c.args.cou
     (tables_of c.args.pages.now c.args.jobs.now c.args.free.now c.args.maps.now)
 tested c = c.lent_ok.ensures ∙ lent_tested c.args.counts.now c.args.distances.now
     (tables_of c.args.pages.now c.args.jobs.now c.args.free.now c.args.maps.now) c.pages_end-total.ensures
-    (sym c.page_counts_ok.ensures ∙ c.if-not-page_counts_ok.false) (sym c.distances_ok.ensures ∙ c.if-not-distances_ok.false)
+    (sym c.if-not-page_counts_ok.ensures) (sym c.if-not-distances_ok.ensures)
 
 -- one of the others breaks the rules
 pub returns-then-not-lent_ok : goal.returns-then-not-lent_ok
@@ -35,13 +35,13 @@ returns-then-not-lent_ok c = let tables : Tables = tables_of c.args.pages.now c.
     drain_refused c.args.counts.now c.args.distances.now c.args.node tables c.args.out.now (moves_1 _ _ tables c.args.node _ bad)
 
 pub distances_ok-requires : goal.distances_ok-requires
-distances_ok-requires c = (counts_in_order c.args.counts.now (sym c.page_counts_ok.ensures ∙ c.if-not-page_counts_ok.false)).nodes_most
+distances_ok-requires c = (counts_in_order c.args.counts.now (sym c.if-not-page_counts_ok.ensures)).nodes_most
 
 pub starts_of-starts-requires : goal.starts_of-starts-requires
-starts_of-starts-requires c = let i = counts_in_order _ (sym c.page_counts_ok.ensures ∙ c.if-not-page_counts_ok.false) in (i.nodes_most, i.pages_most)
+starts_of-starts-requires c = let i = counts_in_order _ (sym c.if-not-page_counts_ok.ensures) in (i.nodes_most, i.pages_most)
 
 pub pages_end-total-requires : goal.pages_end-total-requires
-pages_end-total-requires c = let i = counts_in_order _ (sym c.page_counts_ok.ensures ∙ c.if-not-page_counts_ok.false) in
+pages_end-total-requires c = let i = counts_in_order _ (sym c.if-not-page_counts_ok.ensures) in
     (i.nodes_most, i.pages_most, c.starts_of-starts.ensures)
 
 pub drain_at-requires : goal.drain_at-requires

@@ -46,7 +46,7 @@ pub returns-then-not-counts_match : goal.returns-then-not-counts_match
 unfolding counts_match
 returns-then-not-counts_match c = let tables : Tables = tables_of c.args.pages.now c.args.jobs.now c.args.free.now c.args.maps.now in
     let e = moves_14 c.args.counts.now c.args.distances.now tables c.requires.0 c.args.node c.args.room c.if-node-nodes.false
-    (sym c.counts_match.ensures ∙ c.if-not-counts_match.true) in
+    (sym c.if-not-counts_match.ensures) in
     record {
       answer = rw e;
       tables = rw e;
@@ -69,7 +69,7 @@ drain_by-requires c = let tables : Tables = tables_of c.args.pages.now c.args.jo
       maps_value = (
         mapped_are c.args.counts.now c.args.distances.now tables c.requires.0,
         drainable_lem c.args.counts.now c.args.distances.now tables c.requires.0 c.requires.1 c.if-node-nodes.false
-            (sym c.counts_match.ensures ∙ c.if-not-counts_match.false) others,
+            (sym c.if-not-counts_match.ensures) others,
         c.requires.2,
       );
       by_index = (c.args.distances.now, others);
@@ -79,7 +79,7 @@ pub returns : goal.returns
 unfolding counts_match
 returns c = let tables : Tables = tables_of c.args.pages.now c.args.jobs.now c.args.free.now c.args.maps.now in
     let e = moves_on c.args.counts.now c.args.distances.now tables c.requires.0 c.args.node c.args.room c.if-node-nodes.false
-    (sym c.counts_match.ensures ∙ c.if-not-counts_match.false) in
+    (sym c.if-not-counts_match.ensures) in
     let others = order (goal.at.returns c).After-near-listed in
     let w = c.drain_by.ensures in
     record {
