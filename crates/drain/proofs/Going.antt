@@ -13,6 +13,7 @@ use Rattle.rules.specs.Decisions.{accept}
 use Rattle.rules.specs.Calls.{Tables, tables_of, after_writes, applied}
 use Rattle.rules.specs.Drain.{Move, held_pages, move_writes, moved, moves, draining, pairs}
 use Rattle.rules.proofs.Decisions.{went_on}
+use Rattle.placement.proofs.Grants.{end_is}
 use Rattle.drain.specs.Goals.{near_others, goal_by, after_move}
 use Rattle.drain.specs.Moving.{MayCarry}
 use Rattle.drain.specs.Reached.{Drainable, move_by, held_from, Reached}
@@ -115,6 +116,11 @@ none_gone {counts} {starts} {order} {x} {start} {out₀} {i} d e = record {
       let none : i - first_page counts x ≡ 0 = omega arith in
       rw none (made_none counts distances x start out₀ ws d);
 }
+
+-- a page before the next node's first is one of x's
+pub page_inside : {counts starts order pages free : List ℕ} {x i : ℕ} → Drainable counts starts x order pages free → i < get_or starts (x + 1) 0
+    → i < first_page counts x + get_or counts x 0
+page_inside {x = x} d l = omega (arith, end_is d.paged x d.ordered.node)
 
 module _ {counts starts order jobs maps pages₀ free₀ out₀ : List ℕ} {x : ℕ} (d : Drainable counts starts x order pages₀ free₀)
     {i at : ℕ} {pages free out : List ℕ} (g : Gone counts order x (tables_of pages₀ jobs free₀ maps) out₀ i (tables_of pages jobs free maps) at out) where

@@ -2,14 +2,14 @@
 -- Assumes nothing.
 use Prim.Native.Nat.{ℕ}
 use mathlib.Core.Path.{◌≡◌, refl, sym}
-use mathlib.Core.Bool.{Bool, true, false, ◌&&◌, cond}
-use mathlib.Core.List.{List, []}
+use mathlib.Core.Bool.{Bool, true, false, cond}
+use mathlib.Core.List.{List}
 use mathlib.Core.Option.{Option, none, some}
 use lib.Dec.{ltb}
 use Rattle.rules.specs.Masks.{both}
 use Rattle.rules.specs.Records.{Record, record_at, well_formed}
 use Rattle.rules.specs.Maps.{map_bytes, nodes_in, good_map, set_of}
-use Rattle.rules.specs.Calls.{tables_of, is_job, map_of, is_mapped, limit_of}
+use Rattle.rules.specs.Calls.{is_job, map_of, is_mapped, limit_of}
 use Rattle.rules.specs.Decisions.{refuse, accept, unless}
 use Rattle.rules.specs.Drain.{is_movable}
 use Rattle.rules.proofs.Decisions.{not_accepted, passed}

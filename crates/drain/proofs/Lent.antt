@@ -26,7 +26,8 @@ use Rattle.placement.proofs.Grants.{node_end}
 use Rattle.drain.specs.Goals.{near_others}
 use Rattle.drain.specs.Outcomes.{count_of, tables_after, pairs_after}
 use Rattle.drain.proofs.Reached.{moves_count}
-use Rattle.drain.proofs.Targets.{near_others_lem}
+use Rattle.drain.specs.Reached.{Drainable}
+use Rattle.drain.proofs.Targets.{near_others_lem, others_ordered}
 
 -- ---- tables that are in order
 
@@ -64,6 +65,16 @@ module _ (counts distances : List ℕ) (t : Tables) (ok : drain_tables_ok counts
   -- a count for each node
   pub counts_are : length t.free ≡ length counts
   counts_are = (pages_in_order_lem counts _ _ (drain_fresh_ok counts distances t ok)).one_each
+
+  -- with counts that match, the pages of x may be gone through, by the other nodes
+  pub drainable_lem : {starts order : List ℕ} {x : ℕ} → Starts counts starts → x < length counts → counts_match counts t ≡ true
+      → order ≡ near_others (length counts) distances x → Drainable counts starts x order t.ledger t.free
+  unfolding counts_match
+  drainable_lem {x = x} s l e o = record {
+    paged = paged_are s;
+    ordered = rw o (others_ordered (length counts) distances t.free x (paged_are s).few l counts_are);
+    matches = same_lists t.free (free_counts counts t.ledger) e;
+  }
 
   -- ---- the tests in their order
 

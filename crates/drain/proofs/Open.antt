@@ -1,13 +1,14 @@
 -- Laws of the goals of pages: the first open node of the order, and what is kept of the jobs that have been met.
 -- Assumes nothing.
 use Prim.Native.Nat.{ℕ, zero, suc, ◌+◌, ◌-◌, ◌≤◌, ◌<◌}
-use mathlib.Core.Path.{◌≡◌, refl, sym, ap, ◌∙◌}
+use mathlib.Core.Path.{◌≡◌, refl, sym, ◌∙◌}
 use mathlib.Core.Bool.{Bool, true, false, ◌&&◌, cond}
 use mathlib.Core.List.{List, [], ◌∷◌}
 use mathlib.Core.Option.{none, some}
+use Rattle.std.specs.Prelude.{Option, None, Some}
 use native.Mathlib.Decide.{ℕ_discrete}
 use native.Mathlib.Omega.{arith}
-use borrow.Author.Tests.{lt-ltb, le-ltb, ltb-true, ltb-false}
+use borrow.Author.Tests.{le-ltb, ltb-true, ltb-false}
 use lib.Dec.{ltb}
 use lib.ListN.{length, get_or, set, length-set, replicate, length-replicate}
 use lib.Seq.{get_or-set_same, get_or-set_other}
@@ -15,7 +16,9 @@ use Rattle.rules.specs.Basics.{keep, first}
 use Rattle.rules.specs.Masks.{has}
 use Rattle.rules.specs.SearchOrder.{counted}
 use Rattle.rules.proofs.Lists.{both_true, in_table_lem, at_member, first_keep, first_member}
-use Rattle.drain.specs.Goals.{may_move, limit_in, opens, goal_by, ClosedTo, Kept, Met, Ordered, after_move}
+use Rattle.nodemask.specs.declared.Mask.{Mask}
+use Rattle.drain.specs.declared.goals.MetJob.{MetJob}
+use Rattle.drain.specs.Goals.{may_move, limit_in, opens, goal_by, AllShut, ClosedTo, Kept, Met, Ordered, after_move}
 
 -- ---- the first open node
 
@@ -58,7 +61,7 @@ closed_fails order free limit at c i l = go (has limit (get_or order i 0)) refl
 
 -- What a look through the order from `from` on finds at r, given that no node before is open.
 module _ (order free : List ℕ) (limit from r : ℕ) (before : ClosedTo order free limit from)
-    (passed : (i : ℕ) → from ≤ i → i < r → opens free limit (get_or order i 0) ≡ false) where
+    (passed : AllShut order free limit from r) where
   none_before : (i : ℕ) → i < r → opens free limit (get_or order i 0) ≡ false
   none_before i l = go (ltb i from) refl
     where
@@ -96,17 +99,16 @@ fails_next p a i f e k l h = go (ℕ_discrete k i)
 -- ---- what is kept
 
 -- at first nothing is
-pub none_met : (n : ℕ) (order jobs maps free : List ℕ) → Met n order jobs maps free (replicate 256 0) (replicate 256 0)
+pub none_met : (n : ℕ) (order jobs maps free : List ℕ) → Met n order jobs maps free (replicate 256 None)
 none_met n order jobs maps free = record {
-  limits_long = length-replicate {A = ℕ} 256 0;
-  met_long = length-replicate {A = ℕ} 256 0;
-  kept = λ b l h. absurd (omega (arith, h, zero_at 256 b));
+  long = length-replicate {A = Option MetJob} 256 None;
+  kept = λ b job e. absurd (let none : ◌≡◌ {A = Option MetJob} None (Some job) = sym (none_at 256 b) ∙ e in cc);
 }
   where
-    zero_at : (k i : ℕ) → ◌≡◌ {A = ℕ} (get_or (replicate k 0) i 0) 0
-    zero_at zero i = refl
-    zero_at (suc k) zero = refl
-    zero_at (suc k) (suc i) = zero_at k i
+    none_at : (k i : ℕ) → ◌≡◌ {A = Option MetJob} (get_or (replicate k None) i None) None
+    none_at zero i = refl
+    none_at (suc k) zero = refl
+    none_at (suc k) (suc i) = none_at k i
 
 -- an answer that is there, by a test
 pub some_if : (b : Bool) {x y : ℕ} → some x ≡ cond b (some y) none → (b ≡ true) × (x ≡ y)
@@ -118,90 +120,60 @@ pub none_if : (b : Bool) (y : ℕ) → none ≡ cond b (some y) none → b ≡ f
 none_if true y e = absurd (let z : ◌≡◌ {A = ℕ} 0 1 = cc in omega arith)
 none_if false y e = refl
 
-module _ (n : ℕ) (order jobs maps free limits met : List ℕ) (m : Met n order jobs maps free limits met) (b : ℕ) (few : b < 256) where
-  -- a job that is met and may be moved is kept, with no node passed over
-  pub met_new : (limit : ℕ) → may_move n jobs maps (b - 1) ≡ true → limit ≡ limit_in jobs maps (b - 1)
-      → Met n order jobs maps free (set limits b limit) (set met b 1) × (0 < get_or (set met b 1) b 0)
-  unfolding ClosedTo
-  met_new limit may e = (
-    record {
-      limits_long = length-set limits b limit ∙ m.limits_long;
-      met_long = length-set met b 1 ∙ m.met_long;
-      kept = λ c l h. go c l h (ℕ_discrete c b);
-    },
-    omega (arith, get_or-set_same met b 1 0 (omega (arith, m.met_long))),
-  )
-    where
-      go : (c : ℕ) → c < 256 → 0 < get_or (set met b 1) c 0 → Dec (c ≡ b) → Kept n order jobs maps free (set limits b limit) (set met b 1) c
-      go c l h (yes q) =
-          let one = get_or-set_same met b 1 0 (omega (arith, m.met_long)) in
-          let at = get_or-set_same limits b limit 0 (omega (arith, m.limits_long)) in
-          rw q (record { movable = may; limit = at ∙ e; within = omega (arith, one); closed = λ i u g. absurd (omega (arith, u, one)) })
-      go c l h (no q) =
-          let same = get_or-set_other met b c 1 0 q in
-          let k = m.kept c l (rw same at h) in
-          record {
-            movable = k.movable;
-            limit = get_or-set_other limits b c limit 0 q ∙ k.limit;
-            within = rw same k.within;
-            closed = rw same k.closed;
-          }
+-- a job that is met for the first time and may be moved, with no node passed over
+pub kept_first : {n : ℕ} {order jobs maps free : List ℕ} {b : ℕ} {limit : Mask} → may_move n jobs maps (b - 1) ≡ true
+    → limit.0 ≡ limit_in jobs maps (b - 1) → Kept n order jobs maps free (record { limit = limit; from = 0 }) b
+unfolding ClosedTo
+kept_first may is = record { movable = may; limit = is; within = omega arith; closed = λ i u g. absurd (omega arith) }
 
-  -- a position further on is kept
-  pub met_on : (at : ℕ) → 0 < get_or met b 0 → at ≤ length order → ClosedTo order free (limit_in jobs maps (b - 1)) at
-      → Met n order jobs maps free limits (set met b (at + 1))
-  met_on at known within closed = record {
-    limits_long = m.limits_long;
-    met_long = length-set met b (at + 1) ∙ m.met_long;
-    kept = λ c l h. go c l h (ℕ_discrete c b);
-  }
-    where
-      go : (c : ℕ) → c < 256 → 0 < get_or (set met b (at + 1)) c 0 → Dec (c ≡ b) → Kept n order jobs maps free limits (set met b (at + 1)) c
-      go c l h (yes q) =
-          let k = m.kept b few known in
-          let new : get_or (set met b (at + 1)) b 0 - 1 ≡ at = omega (arith, get_or-set_same met b (at + 1) 0 (omega (arith, m.met_long))) in
-          rw q (record { movable = k.movable; limit = k.limit; within = rw new within; closed = rw new closed })
-      go c l h (no q) =
-          let same = get_or-set_other met b c (at + 1) 0 q in
-          let k = m.kept c l (rw same at h) in
-          record { movable = k.movable; limit = k.limit; within = rw same k.within; closed = rw same k.closed }
+-- what is kept of one more job, or of a job anew
+pub met_on : {n : ℕ} {order jobs maps free : List ℕ} {met : List (Option MetJob)} {b : ℕ} {job : MetJob} → b < 256
+    → Met n order jobs maps free met → Kept n order jobs maps free job b → Met n order jobs maps free (set met b (Some job))
+met_on {n} {order} {jobs} {maps} {free} {met} {b} {job} few m k = record {
+  long = length-set met b (Some job) ∙ m.long;
+  kept = λ c other e. go c other e (ℕ_discrete c b);
+}
+  where
+    go : (c : ℕ) (other : MetJob) → get_or (set met b (Some job)) c None ≡ Some other → Dec (c ≡ b) → Kept n order jobs maps free other c
+    go c other e (yes q) =
+        let new : get_or (set met b (Some job)) b None ≡ Some job = get_or-set_same met b (Some job) None (omega (arith, m.long)) in
+        let old : get_or (set met b (Some job)) b None ≡ Some other = rw q at e in
+        let same : job ≡ other = cc in
+        rw (q, ← same) k
+    go c other e (no q) = m.kept c other (sym (get_or-set_other met b c (Some job) None q) ∙ e)
 
--- Of a job that is kept: what a look through the order from its position on finds at r.
-module _ (n : ℕ) (order jobs maps free limits met : List ℕ) (m : Met n order jobs maps free limits met) (b : ℕ) (few : b < 256)
-    (known : 0 < get_or met b 0) (limit r : ℕ) (is : limit ≡ get_or limits b 0)
-    (passed : (i : ℕ) → get_or met b 0 - 1 ≤ i → i < r → opens free limit (get_or order i 0) ≡ false) where
-  own : Kept n order jobs maps free limits met b
-  own = m.kept b few known
-
-  same : limit ≡ limit_in jobs maps (b - 1)
-  same = is ∙ own.limit
-
-  closed : ClosedTo order free limit (get_or met b 0 - 1)
-  closed = rw same own.closed
+-- Of a job that is kept: what a look through the order from its position on finds.
+module _ {n : ℕ} {order jobs maps free : List ℕ} {job : MetJob} {b : ℕ} (own : Kept n order jobs maps free job b) where
+  closed : ClosedTo order free job.limit.0 job.from
+  closed = rw own.limit own.closed
 
   -- the page has nowhere to go
-  pub goal_none : r ≡ length order → none ≡ goal_by n order jobs maps free (b - 1)
+  pub goal_none : AllShut order free job.limit.0 job.from (length order) → none ≡ goal_by n order jobs maps free (b - 1)
   unfolding goal_by
-  goal_none e = rw (own.movable, ← same) (sym (found_none order free limit (get_or met b 0 - 1) r closed passed e))
+  goal_none passed = rw (own.movable, ← own.limit) (sym (found_none order free job.limit.0 job.from (length order) closed passed refl))
 
-  -- or it goes to the node found
-  pub goal_some : r < length order → opens free limit (get_or order r 0) ≡ true
-      → (some (get_or order r 0) ≡ goal_by n order jobs maps free (b - 1)) × Met n order jobs maps free limits (set met b (r + 1))
-  unfolding goal_by
-  goal_some l o = (
-    rw (own.movable, ← same) (sym (found_open order free limit (get_or met b 0 - 1) r closed passed l o)),
-    met_on n order jobs maps free limits met m b few r known (omega arith)
-        (rw (← same) (closed_on order free limit (get_or met b 0 - 1) r closed passed)),
-  )
+  module _ {at : ℕ} (passed : AllShut order free job.limit.0 job.from at) (l : at < length order) where
+    -- or it goes to the node found
+    pub goal_some : opens free job.limit.0 (get_or order at 0) ≡ true → some (get_or order at 0) ≡ goal_by n order jobs maps free (b - 1)
+    unfolding goal_by
+    goal_some o = rw (own.movable, ← own.limit) (sym (found_open order free job.limit.0 job.from at closed passed l o))
+
+    -- and what is kept goes on from there
+    pub kept_on : Kept n order jobs maps free (record { limit = job.limit; from = at }) b
+    kept_on = record {
+      movable = own.movable;
+      limit = own.limit;
+      within = omega arith;
+      closed = rw (← own.limit) (closed_on order free job.limit.0 job.from at closed passed);
+    }
 
 -- a move makes no node of the order open
-pub met_moved : (n x : ℕ) (order jobs maps free limits met : List ℕ) (k : ℕ) → Ordered n x order free
-    → Met n order jobs maps free limits met → Met n order jobs maps (after_move x free k) limits met
+pub met_moved : {n x : ℕ} {order jobs maps free : List ℕ} {met : List (Option MetJob)} (k : ℕ) → Ordered n x order free
+    → Met n order jobs maps free met → Met n order jobs maps (after_move x free k) met
 unfolding ClosedTo
-met_moved n x order jobs maps free limits met k o m = record {
-  limits_long = m.limits_long;
-  met_long = m.met_long;
-  kept = λ b l h. let w = m.kept b l h in
+met_moved {n} {x} {order} {jobs} {maps} {free} k o m = record {
+  long = m.long;
+  kept = λ b job e. let w = m.kept b job e in
       record { movable = w.movable; limit = w.limit; within = w.within; closed = λ i u g. still i (omega (arith, u, w.within)) (w.closed i u g) };
 }
   where

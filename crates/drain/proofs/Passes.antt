@@ -3,12 +3,11 @@
 use Prim.Native.Nat.{ℕ, zero, suc, ◌+◌, ◌-◌, ◌≤◌, ◌<◌}
 use mathlib.Core.Path.{◌≡◌, refl, sym, ap, subst, ◌∙◌}
 use mathlib.Core.Bool.{Bool, true, false, true≢false}
-use mathlib.Core.List.{List, [], ◌∷◌}
+use mathlib.Core.List.{List}
 use mathlib.Core.Option.{Option, none, some}
 use native.Mathlib.Decide.{ℕ_discrete}
 use native.Mathlib.Omega.{arith}
 use borrow.Author.Tests.{eq-eqb, ne_eqb}
-use lib.Dec.{eqb}
 use lib.ListN.{length, get_or, take, drop, set, length-set, length-drop, drop_of_length-le}
 use lib.Seq.{drop-cons, get_or-take, get_or-drop, length-take-le, get_or-set_same, get_or-set_other}
 use Rattle.rules.specs.Basics.{sum}
@@ -160,7 +159,7 @@ module _ (counts distances : List ℕ) (x : ℕ) (start : Tables) (few : length 
 -- ---- the part of the page table that has a node's pages
 
 module _ {counts starts ledger : List ℕ} (p : Paged counts starts ledger) (n : ℕ) (l : n < length counts) where
-  abbrev part_of : List ℕ
+  abbrev pub part_of : List ℕ
   part_of = take (get_or starts (n + 1) 0 - get_or starts n 0) (drop (get_or starts n 0) ledger)
 
   size : get_or starts (n + 1) 0 - get_or starts n 0 ≡ get_or counts n 0

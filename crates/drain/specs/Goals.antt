@@ -1,15 +1,15 @@
 -- Where a page goes, by the counts alone (request M-107): the order that is gone through, and what is kept of each job that has been met.
-use Rattle.std.specs.Prelude.{ℕ, ◌+◌, ◌-◌, ◌≤◌, ◌<◌, ◌≡◌, Bool, true, false, ◌&&◌, cond, List, [], ◌∷◌, eqb, length, get_or, set, drop}
-use Rattle.std.proofs.Math.Option.{Option, none, some}
+use Rattle.std.specs.Prelude.{Option, None, Some, ℕ, ◌+◌, ◌-◌, ◌≤◌, ◌<◌, ◌≡◌, Bool, true, false, ◌&&◌, cond, List, [], ◌∷◌, eqb, length, get_or, set, drop}
+use Rattle.std.proofs.Math.Option as Math
+use Rattle.std.proofs.Math.Option.{none, some}
 use Rattle.rules.specs.Basics.{keep, first}
 use Rattle.rules.specs.Masks.{has, all_nodes}
 use Rattle.rules.specs.SearchOrder.{near, counted}
 use Rattle.rules.specs.Calls.{tables_of, limit_of}
 use Rattle.rules.specs.Drain.{is_movable}
-use Rattle.drain.specs.declared.goals.Goal.{Goal}
-use Rattle.drain.specs.declared.goals.Goal.TheVariants.{At, Nowhere}
-use Rattle.drain.specs.declared.goals.Holder.{Holder}
-use Rattle.drain.specs.declared.goals.Holder.TheVariants.{Of, Nobody}
+use Rattle.nodemask.specs.declared.Mask.{Mask}
+use Rattle.rules.specs.declared.SysNode.{SysNode}
+use Rattle.drain.specs.declared.goals.MetJob.{MetJob}
 
 -- the nodes other than x, nearest first: near(x) over all nodes, but for x, which stands first in it
 unfoldable pub near_others : ℕ → List ℕ → ℕ → List ℕ
@@ -28,35 +28,37 @@ abbrev pub opens : List ℕ → ℕ → ℕ → Bool
 opens free limit k = has limit k && counted free k
 
 -- where a page that job j holds goes: the first node of the order that is in its limit and counted above 0
-unfoldable pub goal_by : ℕ → List ℕ → List ℕ → List ℕ → List ℕ → ℕ → Option ℕ
+unfoldable pub goal_by : ℕ → List ℕ → List ℕ → List ℕ → List ℕ → ℕ → Math.Option ℕ
 goal_by n order jobs maps free j = cond (may_move n jobs maps j) (first (keep (opens free (limit_in jobs maps j)) order)) none
 
--- what the code's enums stand for
-abbrev pub goal_of : Goal → Option ℕ
-goal_of (At k) = some k.0
-goal_of Nowhere = none
+-- what the code's options stand for
+abbrev pub goal_of : Option SysNode → Math.Option ℕ
+goal_of (Some k) = some k.0
+goal_of None = none
 
-abbrev pub holder_of : Holder → Option ℕ
-holder_of (Of limit) = some limit.0
-holder_of Nobody = none
+abbrev pub holder_of : Option Mask → Math.Option ℕ
+holder_of (Some limit) = some limit.0
+holder_of None = none
+
+-- no node of the order from position `begin` on and before position `at` is open
+abbrev pub AllShut : List ℕ → List ℕ → ℕ → ℕ → ℕ → Type 0
+AllShut order free limit begin at = (i : ℕ) → begin ≤ i → i < at → opens free limit (get_or order i 0) ≡ false
 
 -- no node of the order before position `at` is open
 unfoldable pub ClosedTo : List ℕ → List ℕ → ℕ → ℕ → Type 0
 ClosedTo order free limit at = (i : ℕ) → i < at → has limit (get_or order i 0) ≡ true → get_or free (get_or order i 0) 0 ≡ 0
 
--- What is kept of the job that byte b names, once it has been met: its limit, and one more than a position of the order up to which no node is
--- open.
-pub record Kept (n : ℕ) (order jobs maps free limits met : List ℕ) (b : ℕ) : Type 0 where
+-- What is kept of the job that byte b names, once it has been met: its limit, and a position of the order up to which no node is open.
+pub record Kept (n : ℕ) (order jobs maps free : List ℕ) (job : MetJob) (b : ℕ) : Type 0 where
   pub movable : may_move n jobs maps (b - 1) ≡ true
-  pub limit : get_or limits b 0 ≡ limit_in jobs maps (b - 1)
-  pub within : get_or met b 0 - 1 ≤ length order
-  pub closed : ClosedTo order free (limit_in jobs maps (b - 1)) (get_or met b 0 - 1)
+  pub limit : job.limit.0 ≡ limit_in jobs maps (b - 1)
+  pub within : job.from ≤ length order
+  pub closed : ClosedTo order free (limit_in jobs maps (b - 1)) job.from
 
 -- of every byte that has been met
-pub record Met (n : ℕ) (order jobs maps free limits met : List ℕ) : Type 0 where
-  pub limits_long : length limits ≡ 256
-  pub met_long : length met ≡ 256
-  pub kept : (b : ℕ) → b < 256 → 0 < get_or met b 0 → Kept n order jobs maps free limits met b
+pub record Met (n : ℕ) (order jobs maps free : List ℕ) (met : List (Option MetJob)) : Type 0 where
+  pub long : length met ≡ 256
+  pub kept : (b : ℕ) (job : MetJob) → get_or met b None ≡ Some job → Kept n order jobs maps free job b
 
 -- What may be counted on: the nodes of the order are nodes other than x, there is a count for each node, and job table and maps are in order.
 pub record Ordered (n x : ℕ) (order free : List ℕ) : Type 0 where
@@ -71,7 +73,7 @@ abbrev pub after_move : ℕ → List ℕ → ℕ → List ℕ
 after_move x free k = set (set free x (get_or free x 0 + 1)) k (get_or free k 0 - 1)
 
 -- what comes after a page that goes to a node, or nowhere
-abbrev pub if_goes : Option ℕ → (ℕ → Bool) → Bool
+abbrev pub if_goes : Math.Option ℕ → (ℕ → Bool) → Bool
 if_goes none rest = false
 if_goes (some k) rest = rest k
 

@@ -28,12 +28,10 @@ pub fn counts_match(
     requires { Paged counts.now starts.now pages.now × (length free.now ≡ length counts.now) }
     ensures { result ≡ same free.now (free_counts counts.now pages.now) }
 {
-    let mut i = 0;
-    while i < counts.len() {
-        if free[i] as usize != free_of(counts, starts, pages, i) {
+    for (node, count) in free.iter().enumerate() {
+        if *count as usize != free_of(counts, starts, pages, node) {
             return false;
         }
-        i += 1;
     }
     true
 }

@@ -11,7 +11,7 @@ ghost use Rattle.drain.specs.Moving.{Carries, MayCarry};
 ghost use Rattle.drain.specs.Reached.{Drainable, move_by};
 
 use super::goals;
-use super::goals::{BYTES, Goal};
+use super::goals::{MetJobs, NONE_MET};
 use placement::grant::Marked;
 use placement::hinting::HINTS;
 use placement::placed::Placed;
@@ -37,8 +37,7 @@ fn carry(
     ensures kept { Hints counts.now pages.new hints.new }
 {
     let job = byte - 1;
-    let marked = grant::mark_page(counts, starts, &hints[..], pages, node, job);
-    match marked {
+    match grant::mark_page(counts, starts, &hints[..], pages, node, job) {
         Marked::At(new) => {
             hinting::keep(starts, hints, job as usize, Placed::Granted(node, new));
             pages[page.0 as usize] = 0;
@@ -71,31 +70,29 @@ fn move_at(
     jobs: &[u64],
     free: &mut [u32],
     maps: &[u8],
-    limits: &mut [u64; BYTES],
-    met: &mut [u8; BYTES],
+    met: &mut MetJobs,
     x: SysNode,
     page: Page,
     out: &mut [u32],
     at: usize,
 ) -> usize
     requires maps_value { (mapped_tables_ok (length counts.now) (length jobs.now) (length maps.now) ≡ true) × Drainable counts.now starts.now x.0 order.now pages.old free.old × MayCarry counts.now order.now pages.old jobs.now free.old maps.now x.0 page.0 × (at + 2 ≤ 18446744073709551615) }
-    requires met { Met (length counts.now) order.now jobs.now maps.now free.old limits.old met.old × Hints counts.now pages.old hints.old }
+    requires met { Met (length counts.now) order.now jobs.now maps.now free.old met.old × Hints counts.now pages.old hints.old }
     ensures stays { get_or pages.old page.0 0 ≡ 0 → (result ≡ at) × (pages.new ≡ pages.old) × (free.new ≡ free.old) × (out.new ≡ out.old) }
     ensures moves { 0 < get_or pages.old page.0 0 → (k : ℕ) → goal_by (length counts.now) order.now jobs.now maps.now free.old (get_or pages.old page.0 0 - 1) ≡ some k → (result ≡ at + 2) × (pages.new ≡ after_writes pages.old (move_writes (move_by counts.now pages.old page.0 k (get_or pages.old page.0 0)))) × (free.new ≡ after_move x.0 free.old k) × (at + 2 ≤ length out.old → out.new ≡ set (set out.old at page.0) (at + 1) (move_by counts.now pages.old page.0 k (get_or pages.old page.0 0)).new) }
-    ensures kept { Met (length counts.now) order.now jobs.now maps.now free.new limits.new met.new × Hints counts.now pages.new hints.new }
+    ensures kept { Met (length counts.now) order.now jobs.now maps.now free.new met.new × Hints counts.now pages.new hints.new }
 {
     let byte = pages[page.0 as usize];
     if byte == 0 {
         return at;
     }
-    let goal = goals::goal_of(counts.len(), order, jobs, maps, free, limits, met, byte);
-    match goal {
-        Goal::At(node) => {
+    match goals::goal_of(counts.len(), order, jobs, maps, free, met, byte) {
+        Some(node) => {
             let new = carry(counts, starts, hints, pages, free, x, page, node, byte);
             put_pair(out, at, page, new);
             at + 2
         }
-        Goal::Nowhere => at,
+        None => at,
     }
 }
 
@@ -117,12 +114,11 @@ pub fn move_all(
     ensures moved { (distances : List ℕ) (vs : List Move) → order.now ≡ near_others (length counts.now) distances x.0 → moves counts.now distances x.0 (tables_of pages.old jobs.now free.old maps.now) (held_pages counts.now pages.old x.0) ≡ accept vs → (tables_of pages.new jobs.now free.new maps.now ≡ (applied (tables_of pages.old jobs.now free.old maps.now) (accept (draining x.0 (tables_of pages.old jobs.now free.old maps.now) vs))).tables) × (2 * length vs ≤ length out.old → out.new ≡ pairs vs ++ drop (2 * length vs) out.old) }
     ensures kept { Hints counts.now pages.new hints.new }
 {
-    let mut limits = [0u64; BYTES];
-    let mut met = [0u8; BYTES];
+    let mut met = NONE_MET;
+    let first = starts[x.0 as usize];
     let end = starts[x.0 as usize + 1];
-    let mut i = starts[x.0 as usize];
     let mut at: usize = 0;
-    while i < end {
+    for page in first..end {
         at = move_at(
             counts,
             starts,
@@ -132,13 +128,11 @@ pub fn move_all(
             jobs,
             free,
             maps,
-            &mut limits,
             &mut met,
             x,
-            Page(i),
+            Page(page),
             out,
             at,
         );
-        i += 1;
     }
 }

@@ -1,68 +1,57 @@
 -- `drain` meets its contract: refusal 1, or the drain with no hints.
 -- Assumes nothing.
 use mathlib.Core.Path.{◌≡◌, refl, sym, ◌∙◌}
-use mathlib.Core.Bool.{true, ◌&&◌}
-use borrow.Author.Rules.{rules}
-use borrow.Author.Tests.{not-true, not-false}
-use lib.ListN.{length}
-use Rattle.rules.specs.Machine.{nodes_ok, pages_ok, distances_ok}
 use Rattle.rules.specs.Calls.{Tables, tables_of}
 use Rattle.rules.specs.Drain.{drain_tables_ok}
 use Rattle.rules.proofs.Machine.{counts_in_order}
 use Rattle.placement.proofs.Hints.{zero_hints}
 use Rattle.drain.proofs.Lent.{moves_1, bad_counts, bad_distances, lent_tested, drain_refused, drain_came}
 use Rattle.drain.proofs.drain.Goals as goal
+use Rattle.drain.proofs.drain.Goals.{After-lent_ok}
 
 -- the page counts break the rules
 pub returns-then-not-page_counts_ok : goal.returns-then-not-page_counts_ok
 returns-then-not-page_counts_ok c = let tables : Tables = tables_of c.args.pages.now c.args.jobs.now c.args.free.now c.args.maps.now in
-    let bad = bad_counts c.args.counts.now c.args.distances.now tables (sym c.page_counts_ok.ensures ∙ c.if-not-page_counts_ok.true) in
+    let bad = bad_counts c.args.counts.now c.args.distances.now tables (sym c.if-not-page_counts_ok.ensures) in
     drain_refused c.args.counts.now c.args.distances.now c.args.node tables c.args.out.now (moves_1 _ _ tables c.args.node _ bad)
 
 -- the distances break the rules
 pub returns-then-not-distances_ok : goal.returns-then-not-distances_ok
 returns-then-not-distances_ok c = let tables : Tables = tables_of c.args.pages.now c.args.jobs.now c.args.free.now c.args.maps.now in
-    let bad = bad_distances c.args.counts.now c.args.distances.now tables (sym c.distances_ok.ensures ∙ c.if-not-distances_ok.true) in
+    let bad = bad_distances c.args.counts.now c.args.distances.now tables (sym c.if-not-distances_ok.ensures) in
     drain_refused c.args.counts.now c.args.distances.now c.args.node tables c.args.out.now (moves_1 _ _ tables c.args.node _ bad)
 
-pub starts_of-starts-requires : goal.starts_of-starts-requires
-starts_of-starts-requires c = let counts-ok : (nodes_ok (length c.args.counts.now) && pages_ok c.args.counts.now) ≡ true = sym
-    c.page_counts_ok.ensures ∙ c.if-not-page_counts_ok.false in
-    let i = counts_in_order _ counts-ok in (i.nodes_most, i.pages_most)
-
-pub pages_end-total-requires : goal.pages_end-total-requires
-pages_end-total-requires c = let counts-ok : (nodes_ok (length c.args.counts.now) && pages_ok c.args.counts.now) ≡ true = sym
-    c.page_counts_ok.ensures ∙ c.if-not-page_counts_ok.false in
-    let i = counts_in_order _ counts-ok in
-    (i.nodes_most, i.pages_most, c.starts_of-starts.ensures)
+-- what is lent is in order exactly if the law says so
+tested : (c : After-lent_ok) → c.lent_ok.result ≡ drain_tables_ok c.args.counts.now c.args.distances.now
+    (tables_of c.args.pages.now c.args.jobs.now c.args.free.now c.args.maps.now)
+tested c = c.lent_ok.ensures ∙ lent_tested c.args.counts.now c.args.distances.now
+    (tables_of c.args.pages.now c.args.jobs.now c.args.free.now c.args.maps.now) c.pages_end-total.ensures
+    (sym c.if-not-page_counts_ok.ensures) (sym c.if-not-distances_ok.ensures)
 
 -- one of the others breaks the rules
 pub returns-then-not-lent_ok : goal.returns-then-not-lent_ok
 returns-then-not-lent_ok c = let tables : Tables = tables_of c.args.pages.now c.args.jobs.now c.args.free.now c.args.maps.now in
-    let counts-ok : (nodes_ok (length c.args.counts.now) && pages_ok c.args.counts.now) ≡ true = sym c.page_counts_ok.ensures ∙ c.if-not-page_counts_ok.false in
-    let distances-ok : distances_ok (length c.args.counts.now) c.args.distances.now ≡ true = sym c.distances_ok.ensures ∙ c.if-not-distances_ok.false in
-    let tested : c.lent_ok.result ≡ drain_tables_ok c.args.counts.now c.args.distances.now (tables) = c.lent_ok.ensures ∙ lent_tested
-    c.args.counts.now c.args.distances.now (tables) c.pages_end-total.ensures (counts-ok) (distances-ok) in
-    drain_refused c.args.counts.now c.args.distances.now c.args.node tables c.args.out.now
-    (moves_1 _ _ tables c.args.node _ (sym tested ∙ c.if-not-lent_ok.true))
+    let bad = sym (tested (goal.at.returns-then-not-lent_ok c).After-lent_ok) ∙ c.if-not-lent_ok.true in
+    drain_refused c.args.counts.now c.args.distances.now c.args.node tables c.args.out.now (moves_1 _ _ tables c.args.node _ bad)
+
+pub distances_ok-requires : goal.distances_ok-requires
+distances_ok-requires c = (counts_in_order c.args.counts.now (sym c.if-not-page_counts_ok.ensures)).nodes_most
+
+pub starts_of-starts-requires : goal.starts_of-starts-requires
+starts_of-starts-requires c = let i = counts_in_order _ (sym c.if-not-page_counts_ok.ensures) in (i.nodes_most, i.pages_most)
+
+pub pages_end-total-requires : goal.pages_end-total-requires
+pages_end-total-requires c = let i = counts_in_order _ (sym c.if-not-page_counts_ok.ensures) in
+    (i.nodes_most, i.pages_most, c.starts_of-starts.ensures)
 
 pub drain_at-requires : goal.drain_at-requires
-drain_at-requires c = let tables : Tables = tables_of c.args.pages.now c.args.jobs.now c.args.free.now c.args.maps.now in
-    let counts-ok : (nodes_ok (length c.args.counts.now) && pages_ok c.args.counts.now) ≡ true = sym c.page_counts_ok.ensures ∙ c.if-not-page_counts_ok.false in
-    let distances-ok : distances_ok (length c.args.counts.now) c.args.distances.now ≡ true = sym c.distances_ok.ensures ∙ c.if-not-distances_ok.false in
-    let tested : c.lent_ok.result ≡ drain_tables_ok c.args.counts.now c.args.distances.now (tables) = c.lent_ok.ensures ∙ lent_tested
-    c.args.counts.now c.args.distances.now (tables) c.pages_end-total.ensures (counts-ok) (distances-ok) in (
-      sym tested ∙ c.if-not-lent_ok.false,
-      c.starts_of-starts.ensures,
-      zero_hints c.args.counts.now c.args.pages.now 320,
-    )
+drain_at-requires c = (
+  sym (tested (goal.at.drain_at-requires c).After-lent_ok) ∙ c.if-not-lent_ok.false,
+  c.starts_of-starts.ensures,
+  zero_hints c.args.counts.now c.args.pages.now 320,
+)
 
 pub returns : goal.returns
 returns c = let tables : Tables = tables_of c.args.pages.now c.args.jobs.now c.args.free.now c.args.maps.now in
     let w = c.drain_at.ensures in
     drain_came c.args.counts.now c.args.distances.now c.args.node tables c.args.out.now w.answer w.tables (w.pairs refl)
-
-pub distances_ok-requires : goal.distances_ok-requires
-distances_ok-requires c = let counts-ok : (nodes_ok (length c.args.counts.now) && pages_ok c.args.counts.now) ≡ true = sym c.page_counts_ok.ensures ∙
-    c.if-not-page_counts_ok.false in
-    (counts_in_order c.args.counts.now counts-ok).nodes_most

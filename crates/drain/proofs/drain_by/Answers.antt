@@ -1,30 +1,21 @@
 -- `drain_by` meets its contract: 17, 11, or all moves.
 -- Assumes nothing.
-use Prim.Native.Nat.{ℕ, ◌-◌, ◌*◌, ◌≤◌, ◌<◌}
-use mathlib.Core.Path.{◌≡◌, refl, sym, ap, ◌∙◌}
+use Prim.Native.Nat.{ℕ}
+use mathlib.Core.Path.{◌≡◌, sym, ap}
 use mathlib.Core.List.{List}
 use native.Mathlib.Omega.{arith}
-use borrow.Author.Rules.{rules}
-use borrow.Author.Tests.{not-true, not-false}
-use lib.ListN.{length, get_or}
-use Rattle.rules.specs.Decisions.{Decision, refuse, accept}
+use lib.ListN.{length}
+use Rattle.rules.specs.Decisions.{accept}
 use Rattle.rules.specs.Calls.{Tables, tables_of}
-use Rattle.rules.specs.Drain.{Move, held_pages, moves, moves_within}
-use Rattle.placement.proofs.Grants.{node_end}
 use Rattle.drain.specs.Goals.{near_others}
-use Rattle.drain.specs.Outcomes.{count_of, tables_after, pairs_after}
-use Rattle.drain.proofs.Reached.{moves_count}
-use Rattle.drain.proofs.Within.{stuck, all_moved, within_17, within_11, within_ok, count_low}
+use Rattle.drain.proofs.Within.{within_17, all_moved, within_11, within_ok, count_low}
 use Rattle.drain.proofs.drain_by.Goals as goal
 
 pub returns-then-not-all_go : goal.returns-then-not-all_go
 returns-then-not-all_go c = let tables : Tables = tables_of c.args.pages.now c.args.jobs.now c.args.free.now c.args.maps.now in
-    let movesBy : List ℕ → Decision (List Move) = λ distances. moves c.args.counts.now distances c.args.x.0 (tables)
-    (held_pages c.args.counts.now c.args.pages.now c.args.x.0) in
     let IsOrder : List ℕ → Type 0 = λ distances. c.args.order.now ≡ near_others (length c.args.counts.now) distances c.args.x.0 in
-    let lawBy : List ℕ → Decision (List Move) = λ distances. moves_within c.args.counts.now distances c.args.x.0 (tables) c.args.room in
-    let is-17 : (distances : List ℕ) → IsOrder distances → lawBy distances ≡ refuse 17 = λ distances e. within_17 c.args.counts.now distances
-    c.args.x.0 (tables) c.args.room (stuck c.all_go.result (movesBy distances) (c.if-not-all_go.true) (c.all_go.ensures distances e)) in
+    let is-17 = λ (distances : List ℕ) (e : IsOrder distances).
+    within_17 tables c.requires.maps_value.1 distances c.args.room (c.all_go.ensures distances e) c.if-not-all_go.true in
     record {
       answer = λ distances e. rw (is-17 distances e);
       tables = λ distances e. rw (is-17 distances e);
@@ -35,16 +26,9 @@ returns-then-not-all_go c = let tables : Tables = tables_of c.args.pages.now c.a
 pub returns-then-room-moves : goal.returns-then-room-moves
 returns-then-room-moves c = let tables : Tables = tables_of c.args.pages.now c.args.jobs.now c.args.free.now c.args.maps.now in
     let IsOrder : List ℕ → Type 0 = λ distances. c.args.order.now ≡ near_others (length c.args.counts.now) distances c.args.x.0 in
-    let lawBy : List ℕ → Decision (List Move) = λ distances. moves_within c.args.counts.now distances c.args.x.0 (tables) c.args.room in
-    let movesBy : List ℕ → Decision (List Move) = λ distances. moves c.args.counts.now distances c.args.x.0 (tables)
-    (held_pages c.args.counts.now c.args.pages.now c.args.x.0) in
-    let all : (distances : List ℕ) → IsOrder distances → (vs : List Move) × (movesBy distances ≡ accept vs) = λ distances e. all_moved
-    c.all_go.result (movesBy distances) (c.if-not-all_go.false) (c.all_go.ensures distances e) in
-    let count : (distances : List ℕ) (vs : List Move) → movesBy distances ≡ accept vs → length vs ≡ get_or c.args.counts.now c.args.x.0 0 - get_or
-    c.args.free.now c.args.x.0 0 = λ distances vs e. moves_count c.args.counts.now distances c.args.x.0 (tables) c.requires.maps_value.1.matches
-    c.requires.maps_value.1.paged.fits e in
-    let is-11 : (distances : List ℕ) → IsOrder distances → lawBy distances ≡ refuse 11 = λ distances e. let v = all distances e in
-    within_11 c.args.counts.now distances c.args.x.0 (tables) c.args.room v.1 (omega (arith, c.if-room-moves.true, count distances v.0 v.1)) in
+    let is-11 = λ (distances : List ℕ) (e : IsOrder distances).
+    within_11 tables c.requires.maps_value.1 distances c.args.room (c.all_go.ensures distances e) c.if-not-all_go.false
+    c.if-room-moves.true in
     record {
       answer = λ distances e. rw (is-11 distances e);
       tables = λ distances e. rw (is-11 distances e);
@@ -54,28 +38,19 @@ returns-then-room-moves c = let tables : Tables = tables_of c.args.pages.now c.a
 
 pub returns : goal.returns
 returns c = let tables : Tables = tables_of c.args.pages.now c.args.jobs.now c.args.free.now c.args.maps.now in
-    let movesBy : List ℕ → Decision (List Move) = λ distances. moves c.args.counts.now distances c.args.x.0 (tables)
-    (held_pages c.args.counts.now c.args.pages.now c.args.x.0) in
     let IsOrder : List ℕ → Type 0 = λ distances. c.args.order.now ≡ near_others (length c.args.counts.now) distances c.args.x.0 in
-    let all : (distances : List ℕ) → IsOrder distances → (vs : List Move) × (movesBy distances ≡ accept vs) = λ distances e. all_moved
-    c.all_go.result (movesBy distances) (c.if-not-all_go.false) (c.all_go.ensures distances e) in
-    let count : (distances : List ℕ) (vs : List Move) → movesBy distances ≡ accept vs → length vs ≡ get_or c.args.counts.now c.args.x.0 0 - get_or
-    c.args.free.now c.args.x.0 0 = λ distances vs e. moves_count c.args.counts.now distances c.args.x.0 (tables) c.requires.maps_value.1.matches
-    c.requires.maps_value.1.paged.fits e in
-    let lawBy : List ℕ → Decision (List Move) = λ distances. moves_within c.args.counts.now distances c.args.x.0 (tables) c.args.room in
-    let is_ok : (distances : List ℕ) → (e : IsOrder distances) → lawBy distances ≡ accept (all distances e).0 = λ distances e. let v = all distances
-    e in within_ok c.args.counts.now distances c.args.x.0 (tables) c.args.room v.1
-    (omega (arith, c.if-room-moves.false, count distances v.0 v.1)) in
+    let all = λ (distances : List ℕ) (e : IsOrder distances).
+    all_moved tables c.requires.maps_value.1 distances c.args.room (c.all_go.ensures distances e) c.if-not-all_go.false in
+    let is-ok = λ (distances : List ℕ) (e : IsOrder distances).
+    within_ok tables c.requires.maps_value.1 distances c.args.room (c.all_go.ensures distances e) c.if-not-all_go.false
+    c.if-room-moves.false in
     let done = c.move_all.ensures in record {
-      answer = λ distances e. let v = all distances e in rw (is_ok distances e) (ap accept (sym (count distances v.0 v.1)));
-      tables = λ distances e. let v = all distances e in rw (is_ok distances e) (done.moved distances v.0 e v.1).0;
+      answer = λ distances e. rw (is-ok distances e) (ap accept (sym (all distances e).2));
+      tables = λ distances e. let v = all distances e in rw (is-ok distances e) (done.moved distances v.0 e v.1).0;
       pairs = λ distances e l. let v = all distances e in
-          rw (is_ok distances e)
-          ((done.moved distances v.0 e v.1).1 (omega (arith, l, c.if-room-moves.false, count distances v.0 v.1)));
+          rw (is-ok distances e) ((done.moved distances v.0 e v.1).1 (omega (arith, l, c.if-room-moves.false, v.2)));
       kept = done.kept;
     }
 
 pub overflow_sub-moves : goal.overflow_sub-moves
-overflow_sub-moves c = let low : get_or c.args.free.now c.args.x.0 0 ≤ get_or c.args.counts.now c.args.x.0 0 = count_low c.args.counts.now
-    c.args.pages.now c.args.free.now c.args.x.0 c.requires.maps_value.1.matches in
-    low
+overflow_sub-moves c = count_low c.args.counts.now c.args.pages.now c.args.free.now c.args.x.0 c.requires.maps_value.1.matches

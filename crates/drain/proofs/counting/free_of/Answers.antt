@@ -1,10 +1,6 @@
 -- `counting::free_of` meets its contract: the node's part of the page table is counted.
 -- Assumes nothing.
-use Prim.Native.Nat.{◌+◌, ◌≤◌}
 use mathlib.Core.Path.{◌∙◌}
-use native.Mathlib.Omega.{arith}
-use borrow.Author.Rules.{rules}
-use lib.ListN.{length, get_or}
 use Rattle.placement.proofs.Grants.{inside}
 use Rattle.drain.proofs.Matching.{free_is}
 use Rattle.drain.proofs.counting.free_of.Goals as goal
@@ -13,19 +9,10 @@ pub returns : goal.returns
 returns c = c.count_free.ensures ∙ free_is c.requires.0 c.args.node c.requires.1
 
 pub slice_bounds-count_free-count : goal.slice_bounds-count_free-count
-slice_bounds-count_free-count c = let part : (get_or c.args.starts.now c.args.node 0 ≤ get_or c.args.starts.now (c.args.node + 1) 0) ×
-    (get_or c.args.starts.now (c.args.node + 1) 0 ≤ length c.args.pages.now) × (get_or c.args.starts.now (c.args.node + 1) 0 ≤ 1048576) = inside
-    c.requires.0 c.args.node c.requires.1 in
-    part.0
+slice_bounds-count_free-count c = (inside c.requires.0 c.args.node c.requires.1).0
 
 pub slice_bounds-count_free-start : goal.slice_bounds-count_free-start
-slice_bounds-count_free-start c = let part : (get_or c.args.starts.now c.args.node 0 ≤ get_or c.args.starts.now (c.args.node + 1) 0) ×
-    (get_or c.args.starts.now (c.args.node + 1) 0 ≤ length c.args.pages.now) × (get_or c.args.starts.now (c.args.node + 1) 0 ≤ 1048576) = inside
-    c.requires.0 c.args.node c.requires.1 in
-    part.0
+slice_bounds-count_free-start c = (inside c.requires.0 c.args.node c.requires.1).0
 
 pub slice_bounds-count_free-end : goal.slice_bounds-count_free-end
-slice_bounds-count_free-end c = let part : (get_or c.args.starts.now c.args.node 0 ≤ get_or c.args.starts.now (c.args.node + 1) 0) ×
-    (get_or c.args.starts.now (c.args.node + 1) 0 ≤ length c.args.pages.now) × (get_or c.args.starts.now (c.args.node + 1) 0 ≤ 1048576) = inside
-    c.requires.0 c.args.node c.requires.1 in
-    part.1
+slice_bounds-count_free-end c = (inside c.requires.0 c.args.node c.requires.1).1

@@ -1,93 +1,42 @@
--- `moving::move_all` meets its contract. The loop: the pages of x before page i are gone through.
+-- `moving::move_all` meets its contract.
 -- Assumes nothing.
-use Prim.Native.Nat.{◌+◌, ◌-◌, ◌≤◌, ◌<◌}
-use mathlib.Core.Path.{◌≡◌}
 use native.Mathlib.Omega.{arith}
-use borrow.Author.Rules.{rules}
-use lib.ListN.{length, get_or}
-use Rattle.rules.specs.Machine.{first_page}
-use Rattle.rules.specs.Calls.{tables_of}
-use Rattle.placement.specs.Hints.{Hints}
 use Rattle.placement.proofs.Grants.{node_end, first_is, end_is}
-use Rattle.drain.specs.Goals.{Met}
 use Rattle.drain.proofs.Open.{none_met}
-use Rattle.drain.proofs.Going.{Gone, none_gone, all_gone, now_drainable, next_carried, next_gone}
+use Rattle.drain.proofs.Going.{none_gone, page_inside, all_gone, now_drainable, next_carried, next_gone}
 use Rattle.drain.proofs.moving.move_all.Goals as goal
 
-pub loop-i-init : goal.loop-i-init
-loop-i-init c = let bounds : (c.args.x.0 < length c.args.counts.now) × (length c.args.counts.now ≤ 64) ×
-    (get_or c.args.starts.now c.args.x.0 0 ≡ first_page c.args.counts.now c.args.x.0) ×
-    (get_or c.args.starts.now (c.args.x.0 + 1) 0 ≡ first_page c.args.counts.now c.args.x.0 + get_or c.args.counts.now c.args.x.0 0) ×
-    (first_page c.args.counts.now c.args.x.0 + get_or c.args.counts.now c.args.x.0 0 ≤ 1048576) = (
-      c.requires.maps_value.1.ordered.node,
-      c.requires.maps_value.1.paged.few,
-      first_is c.requires.maps_value.1.paged c.args.x.0 c.requires.maps_value.1.ordered.node,
-      end_is c.requires.maps_value.1.paged c.args.x.0 c.requires.maps_value.1.ordered.node,
-      omega (arith, node_end c.args.counts.now c.args.x.0, c.requires.maps_value.1.paged.pages),
-    ) in
-    (none_gone c.requires.maps_value.1 bounds.2, none_met _ _ _ _ _, c.requires.maps_value.2)
+pub loop-page-init : goal.loop-page-init
+loop-page-init c = let d = c.requires.maps_value.1 in
+    (none_gone d (first_is d.paged c.args.x.0 d.ordered.node), none_met _ _ _ _ _, c.requires.maps_value.2)
 
 pub move_at-at-requires : goal.move_at-at-requires
-move_at-at-requires c = let bounds : (c.args.x.0 < length c.args.counts.now) × (length c.args.counts.now ≤ 64) ×
-    (get_or c.args.starts.now c.args.x.0 0 ≡ first_page c.args.counts.now c.args.x.0) ×
-    (get_or c.args.starts.now (c.args.x.0 + 1) 0 ≡ first_page c.args.counts.now c.args.x.0 + get_or c.args.counts.now c.args.x.0 0) ×
-    (first_page c.args.counts.now c.args.x.0 + get_or c.args.counts.now c.args.x.0 0 ≤ 1048576) = (
-      c.requires.maps_value.1.ordered.node,
-      c.requires.maps_value.1.paged.few,
-      first_is c.requires.maps_value.1.paged c.args.x.0 c.requires.maps_value.1.ordered.node,
-      end_is c.requires.maps_value.1.paged c.args.x.0 c.requires.maps_value.1.ordered.node,
-      omega (arith, node_end c.args.counts.now c.args.x.0, c.requires.maps_value.1.paged.pages),
-    ) in
-    let inside : c.loop-i.i < first_page c.args.counts.now c.args.x.0 + get_or c.args.counts.now c.args.x.0 0 = let more : c.loop-i.i < get_or
-    c.args.starts.now (c.args.x.0 + 1) 0 = c.loop-i-test.true in omega (arith, (bounds).3) in
-    let fits : c.loop-i.at + 2 ≤ 18446744073709551615 = omega (arith, inside, c.loop-i.invariant.0.few, (bounds).4) in
-    let v = c.loop-i.invariant in
-    record {
+move_at-at-requires c = let d = c.requires.maps_value.1 in
+    let by = c.requires.by_index in
+    let v = c.loop-page.invariant in
+    let inside = page_inside d c.loop-page-test.true in record {
       maps_value = (
         c.requires.maps_value.0,
-        now_drainable c.requires.maps_value.1 v.0 c.requires.by_index.0 c.requires.by_index.1
-            c.requires.by_index.2 c.requires.by_index.3,
-        next_carried c.requires.maps_value.1 v.0 c.requires.by_index.0 c.requires.by_index.1
-            c.requires.by_index.2 c.requires.by_index.3 inside,
-        fits,
+        now_drainable d v.0 by.0 by.1 by.2 by.3,
+        next_carried d v.0 by.0 by.1 by.2 by.3 inside,
+        omega (arith, inside, v.0.few, node_end c.args.counts.now c.args.x.0, d.paged.pages),
       );
       met = (v.1, v.2);
     }
 
-pub loop-i-preserved : goal.loop-i-preserved
-loop-i-preserved c = let bounds : (c.args.x.0 < length c.args.counts.now) × (length c.args.counts.now ≤ 64) ×
-    (get_or c.args.starts.now c.args.x.0 0 ≡ first_page c.args.counts.now c.args.x.0) ×
-    (get_or c.args.starts.now (c.args.x.0 + 1) 0 ≡ first_page c.args.counts.now c.args.x.0 + get_or c.args.counts.now c.args.x.0 0) ×
-    (first_page c.args.counts.now c.args.x.0 + get_or c.args.counts.now c.args.x.0 0 ≤ 1048576) = (
-      c.requires.maps_value.1.ordered.node,
-      c.requires.maps_value.1.paged.few,
-      first_is c.requires.maps_value.1.paged c.args.x.0 c.requires.maps_value.1.ordered.node,
-      end_is c.requires.maps_value.1.paged c.args.x.0 c.requires.maps_value.1.ordered.node,
-      omega (arith, node_end c.args.counts.now c.args.x.0, c.requires.maps_value.1.paged.pages),
-    ) in
-    let inside : c.loop-i.i < first_page c.args.counts.now c.args.x.0 + get_or c.args.counts.now c.args.x.0 0 = let more : c.loop-i.i < get_or
-    c.args.starts.now (c.args.x.0 + 1) 0 = c.loop-i-test.true in omega (arith, (bounds).3) in (
-      next_gone c.requires.maps_value.1 c.loop-i.invariant.0 inside c.move_at-at.ensures.stays c.move_at-at.ensures.moves c.requires.by_index.0
-          c.requires.by_index.1 c.requires.by_index.2 c.requires.by_index.3
+pub loop-page-preserved : goal.loop-page-preserved
+loop-page-preserved c = let d = c.requires.maps_value.1 in
+    let by = c.requires.by_index in
+    let moved = c.move_at-at.ensures in (
+      next_gone d c.loop-page.invariant.0 (page_inside d c.loop-page-test.true) moved.stays moved.moves by.0 by.1 by.2 by.3
           c.move_at-at.auto.pages c.move_at-at.auto.free c.move_at-at.auto.out,
-      c.move_at-at.ensures.kept.0,
-      c.move_at-at.ensures.kept.1,
+      moved.kept.0,
+      moved.kept.1,
     )
 
 pub returns : goal.returns
-returns c = let bounds : (c.args.x.0 < length c.args.counts.now) × (length c.args.counts.now ≤ 64) ×
-    (get_or c.args.starts.now c.args.x.0 0 ≡ first_page c.args.counts.now c.args.x.0) ×
-    (get_or c.args.starts.now (c.args.x.0 + 1) 0 ≡ first_page c.args.counts.now c.args.x.0 + get_or c.args.counts.now c.args.x.0 0) ×
-    (first_page c.args.counts.now c.args.x.0 + get_or c.args.counts.now c.args.x.0 0 ≤ 1048576) = (
-      c.requires.maps_value.1.ordered.node,
-      c.requires.maps_value.1.paged.few,
-      first_is c.requires.maps_value.1.paged c.args.x.0 c.requires.maps_value.1.ordered.node,
-      end_is c.requires.maps_value.1.paged c.args.x.0 c.requires.maps_value.1.ordered.node,
-      omega (arith, node_end c.args.counts.now c.args.x.0, c.requires.maps_value.1.paged.pages),
-    ) in
-    let v = c.loop-i.invariant in
-    let last : get_or c.args.starts.now (c.args.x.0 + 1) 0 ≤ c.loop-i.i = omega (arith, c.loop-i-test.false) in
-    record {
-      moved = all_gone c.requires.maps_value.1 v.0 (omega (arith, v.0.to, bounds.3));
+returns c = let d = c.requires.maps_value.1 in
+    let v = c.loop-page.invariant in record {
+      moved = all_gone d v.0 (omega (arith, v.0.to, end_is d.paged c.args.x.0 d.ordered.node, c.loop-page-test.false));
       kept = v.2;
     }

@@ -4,10 +4,9 @@ use Prim.Native.Nat.{ℕ, ◌+◌, ◌-◌, ◌<◌}
 use mathlib.Core.Path.{◌≡◌, refl, sym, ap, ◌∙◌}
 use mathlib.Core.Option.{some}
 use native.Mathlib.Omega.{arith}
-use borrow.Author.Rules.{rules}
 use lib.ListN.{length, get_or, set}
 use Rattle.rules.proofs.Pages.{PageOf, page_lt}
-use Rattle.drain.specs.Goals.{goal_by, goal_of}
+use Rattle.drain.specs.Goals.{goal_by}
 use Rattle.drain.specs.Moving.{Carries}
 use Rattle.drain.proofs.Open.{met_moved}
 use Rattle.drain.proofs.Moved.{goal_carries}
@@ -21,32 +20,31 @@ bounds-pages-page c = let page : PageOf c.args.counts.now c.args.x.0 c.args.page
 pub carry-new-requires : goal.carry-new-requires
 carry-new-requires c = let byte : ℕ = get_or c.args.pages.now c.args.page.0 0 in
     let held : 0 < byte = omega (arith, c.if-byte-eq0.false) in
-    let goes : goal_by (length c.args.counts.now) c.args.order.now c.args.jobs.now c.args.maps.now c.args.free.now (byte - 1) ≡ some c.in-At.node.0 =
-    sym c.goal_of-goal.ensures.goes ∙ ap goal_of c.in-At.is in
-    let carries : Carries c.args.counts.now c.args.starts.now c.args.pages.now c.args.free.now c.args.x.0 c.args.page.0 c.in-At.node.0 (byte) =
-    goal_carries c.requires.maps_value.1 c.args.jobs.now c.args.maps.now c.args.page.0 c.in-At.node.0 (byte) c.requires.maps_value.0
+    let goes : goal_by (length c.args.counts.now) c.args.order.now c.args.jobs.now c.args.maps.now c.args.free.now (byte - 1) ≡ some c.in-Some.node.0 =
+    sym c.in-Some.ensures.goes in
+    let carries : Carries c.args.counts.now c.args.starts.now c.args.pages.now c.args.free.now c.args.x.0 c.args.page.0 c.in-Some.node.0 (byte) =
+    goal_carries c.requires.maps_value.1 c.args.jobs.now c.args.maps.now c.args.page.0 c.in-Some.node.0 (byte) c.requires.maps_value.0
     c.requires.maps_value.2.start c.requires.maps_value.2.end (held) (goes) in
     (carries, c.requires.met.1)
 
 -- it is moved, and its pair put
-pub returns-in-At : goal.returns-in-At
-returns-in-At c = let byte : ℕ = get_or c.args.pages.now c.args.page.0 0 in
+pub returns-in-Some : goal.returns-in-Some
+returns-in-Some c = let byte : ℕ = get_or c.args.pages.now c.args.page.0 0 in
     let held : 0 < byte = omega (arith, c.if-byte-eq0.false) in
-    let goes : goal_by (length c.args.counts.now) c.args.order.now c.args.jobs.now c.args.maps.now c.args.free.now (byte - 1) ≡ some c.in-At.node.0 =
-    sym c.goal_of-goal.ensures.goes ∙ ap goal_of c.in-At.is in
+    let goes : goal_by (length c.args.counts.now) c.args.order.now c.args.jobs.now c.args.maps.now c.args.free.now (byte - 1) ≡ some c.in-Some.node.0 =
+    sym c.in-Some.ensures.goes in
     let done = c.carry-new.ensures in record {
       stays = λ e. absurd (omega (arith, e, held));
       moves = λ h k e.
           let f = sym goes ∙ e in
-          let same : c.in-At.node.0 ≡ k = cc in (
+          let same : c.in-Some.node.0 ≡ k = cc in (
             refl,
             rw (← same) done.table,
             rw (← same) done.counted,
             λ r. c.put_pair.ensures r ∙ ap (set (set c.args.out.now c.args.at c.args.page.0) (c.args.at + 1)) (rw (← same) done.taken),
           );
       kept = (
-        rw done.counted (met_moved (length c.args.counts.now) c.args.x.0 c.args.order.now c.args.jobs.now c.args.maps.now
-            c.args.free.now _ _ _ c.requires.maps_value.1.ordered c.goal_of-goal.ensures.kept),
+        rw done.counted (met_moved c.in-Some.node.0 c.requires.maps_value.1.ordered c.in-Some.ensures.kept),
         done.kept,
       );
     }
