@@ -8,11 +8,10 @@ ghost use Rattle.rules.specs.Drain.{held_pages, moves};
 ghost use Rattle.drain.specs.Goals.{near_others, may_move, limit_in, opens, goal_by, goal_of, holder_of, AllShut, Kept, Met, Ordered, after_move, passes};
 ghost use Rattle.drain.specs.Reached.{Drainable, Goes};
 
-use maps::judging::Judged;
 use maps::{judging, turning};
 use nodemask::Mask;
 use placement;
-use placement::{Admission, search};
+use placement::search;
 use records::table;
 use rules::{MOST_NODES, SysNode};
 
@@ -41,12 +40,10 @@ fn holder_of(nodes: usize, jobs: &[u64], maps: &[u8], byte: u8) -> Option<Mask>
     if !table::has_job(jobs.len(), job) {
         return None;
     }
-    match judging::judge(nodes, turning::of_job(maps, job)) {
-        Judged::Good(set, _) => match placement::admit_mapped(nodes, 1, jobs, set, job, 0) {
-            Admission::Passed(_, limit) => Some(limit),
-            Admission::Refused(_) => None,
-        },
-        Judged::Bad => None,
+    let map = judging::judge(nodes, turning::of_job(maps, job))?;
+    match placement::admit_mapped(nodes, 1, jobs, map.set, job, 0) {
+        Ok(admitted) => Some(admitted.limit),
+        Err(_) => None,
     }
 }
 

@@ -18,7 +18,7 @@ use machine::listing;
 use nodemask::Mask;
 use placement;
 use placement::hinting::HINTS;
-use rules::{Decision, MOST_NODES, Refusal, SysNode};
+use rules::{MOST_NODES, Refusal, SysNode};
 
 mod counting;
 pub mod goals;
@@ -38,7 +38,7 @@ fn drain_by(
     x: SysNode,
     room: usize,
     out: &mut [u32],
-) -> Decision
+) -> Result<u64, Refusal>
     requires maps_value { (mapped_tables_ok (length counts.now) (length jobs.now) (length maps.now) ≡ true) × Drainable counts.now starts.now x.0 order.now pages.old free.old × Hints counts.now pages.old hints.old }
     requires by_index { (distances : List ℕ) × (order.now ≡ near_others (length counts.now) distances x.0) }
     ensures answer { (distances : List ℕ) → order.now ≡ near_others (length counts.now) distances x.0 → decision_of result ≡ count_of (moves_within counts.now distances x.0 (tables_of pages.old jobs.now free.old maps.now) room) }
@@ -47,17 +47,17 @@ fn drain_by(
     ensures kept { Hints counts.now pages.new hints.new }
 {
     if !goals::all_go(counts, starts, order, pages, jobs, free, maps, x) {
-        return Decision::Refuse(Refusal::NowhereToGo);
+        return Err(Refusal::NowhereToGo);
     }
     let n = x.0 as usize;
     let moves = (counts[n] - free[n]) as usize;
     if room < 2 * moves {
-        return Decision::Refuse(Refusal::OutputTooShort);
+        return Err(Refusal::OutputTooShort);
     }
     moving::move_all(
         counts, starts, hints, order, pages, jobs, free, maps, x, out,
     );
-    Decision::Accept(moves as u64)
+    Ok(moves as u64)
 }
 
 // A drain on tables that are in order: refusals 6, 14, 17 and 11. near(x) is listed once, over all nodes; x comes first in it.
@@ -73,7 +73,7 @@ pub fn drain_at(
     node: usize,
     room: usize,
     out: &mut [u32],
-) -> Decision
+) -> Result<u64, Refusal>
     requires { (drain_tables_ok counts.now distances.now (tables_of pages.old jobs.now free.old maps.now) ≡ true) × Starts counts.now starts.now × Hints counts.now pages.old hints.old }
     ensures answer { decision_of result ≡ count_of (drain_moves counts.now distances.now node (tables_of pages.old jobs.now free.old maps.now) room) }
     ensures tables { tables_of pages.new jobs.now free.new maps.now ≡ tables_after node (tables_of pages.old jobs.now free.old maps.now) (drain_moves counts.now distances.now node (tables_of pages.old jobs.now free.old maps.now) room) }
@@ -82,10 +82,10 @@ pub fn drain_at(
 {
     let nodes = counts.len();
     if node >= nodes {
-        return Decision::Refuse(Refusal::DoesNotFit);
+        return Err(Refusal::DoesNotFit);
     }
     if !counting::counts_match(counts, starts, pages, free) {
-        return Decision::Refuse(Refusal::WrongCount);
+        return Err(Refusal::WrongCount);
     }
     let x = SysNode(node as u8);
     let listed = listing::near(nodes, distances, Mask::all_nodes(nodes), x);
@@ -116,14 +116,14 @@ pub fn drain(
     maps: &[u8],
     node: usize,
     out: &mut [u32],
-) -> Decision
+) -> Result<u64, Refusal>
     ensures { did_drain (decision_of result) (tables_of pages.new jobs.now free.new maps.now) out.new ≡ on_drain counts.now distances.now node (tables_of pages.old jobs.now free.old maps.now) out.old }
 {
     if !machine::page_counts_ok(counts) {
-        return Decision::Refuse(Refusal::BadTables);
+        return Err(Refusal::BadTables);
     }
     if !machine::distances_ok(counts.len(), distances) {
-        return Decision::Refuse(Refusal::BadTables);
+        return Err(Refusal::BadTables);
     }
     let starts = machine::starts_of(counts);
     let total = machine::pages_end(counts, &starts);
@@ -135,7 +135,7 @@ pub fn drain(
         free.len(),
         maps.len(),
     ) {
-        return Decision::Refuse(Refusal::BadTables);
+        return Err(Refusal::BadTables);
     }
     let mut hints = [0u32; HINTS];
     let room = out.len();

@@ -12,7 +12,6 @@ ghost use Rattle.drain.specs.Reached.{Drainable, move_by};
 
 use super::goals;
 use super::goals::{MetJobs, NONE_MET};
-use placement::grant::Marked;
 use placement::hinting::HINTS;
 use placement::placed::Placed;
 use placement::{grant, hinting};
@@ -38,14 +37,14 @@ fn carry(
 {
     let job = byte - 1;
     match grant::mark_page(counts, starts, &hints[..], pages, node, job) {
-        Marked::At(new) => {
-            hinting::keep(starts, hints, job as usize, Placed::Granted(node, new));
+        Some(new) => {
+            hinting::keep(starts, hints, job as usize, Ok(Placed::Granted(node, new)));
             pages[page.0 as usize] = 0;
-            hinting::keep(starts, hints, job as usize, Placed::Released(x, page));
+            hinting::keep(starts, hints, job as usize, Ok(Placed::Released(x, page)));
             goals::count_move(free, x, node);
             new
         }
-        Marked::Full => page,
+        None => page,
     }
 }
 

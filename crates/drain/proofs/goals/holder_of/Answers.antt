@@ -10,7 +10,7 @@ use Rattle.rules.proofs.InOrder.{mapped_map}
 use Rattle.rules.proofs.Kept.{mapped_nodes}
 use Rattle.rules.proofs.Maps.{map_long}
 use Rattle.maps.specs.Judging.{Judges}
-use Rattle.maps.specs.declared.judging.Judged.TheVariants.{Good, Bad}
+use Rattle.std.specs.Prelude.{Some}
 use Rattle.drain.proofs.Holders.{admitted_formed, refused_malformed, no_job_lem, bad_map_lem, malformed, holder}
 use Rattle.drain.proofs.goals.holder_of.Goals as goal
 
@@ -26,23 +26,23 @@ judge-requires c = let has-map = mapped_map c.args.nodes _ _ (c.args.byte - 1) c
     let few = mapped_nodes _ _ _ c.requires.0 in
     (few.0, few.1, ap length c.of_job.ensures ∙ map_long c.args.maps.now (c.args.byte - 1) has-map)
 
+-- its map is bad
+pub returns-in_err-map : goal.returns-in_err-map
+returns-in_err-map c = rw c.from_residual.ensures (bad_map_lem c.args.nodes c.args.jobs.now c.args.maps.now (c.args.byte - 1)
+    (sym c.if-not-has_job.ensures) (rw (sym c.of_job.ensures) (rw c.in_err-map.was at c.judge.ensures)))
+
 -- it passes
-pub returns-in-Passed : goal.returns-in-Passed
-returns-in-Passed c = let good : Judges c.args.nodes (map_bytes c.args.maps.now (c.args.byte - 1)) (Good c.in-Good.set c.in-Good.field-1) =
-    rw (sym c.of_job.ensures) c.in-Good.ensures in
-    let passed = c.in-Passed.ensures in
+pub returns-in-Ok : goal.returns-in-Ok
+returns-in-Ok c = let good : Judges c.args.nodes (map_bytes c.args.maps.now (c.args.byte - 1)) (Some c.in_ok-map.map) =
+    rw (sym c.of_job.ensures) (rw c.in_ok-map.was at c.judge.ensures) in
+    let passed = c.in-Ok.ensures in
     holder c.args.nodes c.args.jobs.now c.args.maps.now (c.args.byte - 1) (sym c.if-not-has_job.ensures) good.0
     (admitted_formed c.args.nodes (record_at c.args.jobs.now (c.args.byte - 1)) passed.tested)
     _ (passed.limit ∙ ap (both (record_at c.args.jobs.now (c.args.byte - 1)).allowed) good.1)
 
 -- it is malformed
-pub returns-in-Refused : goal.returns-in-Refused
-returns-in-Refused c = let good : Judges c.args.nodes (map_bytes c.args.maps.now (c.args.byte - 1)) (Good c.in-Good.set c.in-Good.field-1) =
-    rw (sym c.of_job.ensures) c.in-Good.ensures in
+pub returns-in-Err : goal.returns-in-Err
+returns-in-Err c = let good : Judges c.args.nodes (map_bytes c.args.maps.now (c.args.byte - 1)) (Some c.in_ok-map.map) =
+    rw (sym c.of_job.ensures) (rw c.in_ok-map.was at c.judge.ensures) in
     malformed c.args.nodes c.args.jobs.now c.args.maps.now (c.args.byte - 1) (sym c.if-not-has_job.ensures) good.0
-    (refused_malformed c.args.nodes (record_at c.args.jobs.now (c.args.byte - 1)) c.in-Refused.ensures.tested)
-
--- its map is bad
-pub returns-in-Bad : goal.returns-in-Bad
-returns-in-Bad c = let bad : Judges c.args.nodes (map_bytes c.args.maps.now (c.args.byte - 1)) Bad = rw (sym c.of_job.ensures) c.in-Bad.ensures in
-    bad_map_lem c.args.nodes c.args.jobs.now c.args.maps.now (c.args.byte - 1) (sym c.if-not-has_job.ensures) bad
+    (refused_malformed c.args.nodes (record_at c.args.jobs.now (c.args.byte - 1)) c.in-Err.ensures.tested)
