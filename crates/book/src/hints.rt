@@ -13,7 +13,7 @@ use drain;
 use placement;
 use placement::hinting::HINTS;
 use placement::{hinting, placed};
-use rules::{Answer, Decision, MOST_NODES};
+use rules::{Answer, Effect, MOST_NODES};
 
 // A request on tables that are in order.
 pub fn request(
@@ -105,7 +105,7 @@ pub fn drain_node(
     ensures kept { Hints counts.now pages.new hints.new }
 {
     let mut none = [0u32; 1];
-    let done = drain::drain_at(
+    let moves = drain::drain_at(
         counts,
         starts,
         hints,
@@ -117,9 +117,6 @@ pub fn drain_node(
         node,
         room,
         &mut none[..0],
-    );
-    match done {
-        Decision::Accept(moves) => Answer::Drained(moves as u32),
-        Decision::Refuse(why) => Answer::Refused(why),
-    }
+    )?;
+    Ok(Effect::Drained(moves as u32))
 }

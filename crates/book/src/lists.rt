@@ -14,9 +14,9 @@ fn too_long(words: usize, job: usize) -> Answer
     ensures { (n : ℕ) (t : Tables) (all : List ℕ) → length t.records ≡ words → mapped_tables_ok n words (length t.maps) ≡ true → map_size < length all → (outcome (answer_of result) t ≡ on_keep n t job all) × (outcome (answer_of result) t ≡ on_set_map n t job all) }
 {
     if !table::has_job(words, job) {
-        return Answer::Refused(Refusal::NoSuchJob);
+        return Err(Refusal::NoSuchJob);
     }
-    Answer::Refused(Refusal::BadMap)
+    Err(Refusal::BadMap)
 }
 
 // The tenant's call on tables that are in order.
