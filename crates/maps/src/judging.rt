@@ -23,13 +23,11 @@ fn used(map: &[u8]) -> usize
     ensures { result ≡ length (keep is_node map.now) }
 {
     let mut ends: u8 = 0;
-    let mut i: usize = 0;
-    while i < MAP_BYTES {
-        let end = map[i] == NO_NODE;
+    for byte in &map[..MAP_BYTES] {
+        let end = *byte == NO_NODE;
         if end {
             ends += 1;
         }
-        i += 1;
     }
     MAP_BYTES - ends as usize
 }
@@ -41,11 +39,9 @@ fn both_sets(one: &[u8], other: &[u8]) -> Mask
 {
     let mut set = Mask::EMPTY;
     let mut more = Mask::EMPTY;
-    let mut i: usize = 0;
-    while i < one.len() {
-        set = set.insert(SysNode(one[i]));
-        more = more.insert(SysNode(other[i]));
-        i += 1;
+    for (node, next) in one.iter().zip(other) {
+        set = set.insert(SysNode(*node));
+        more = more.insert(SysNode(*next));
     }
     set.either(more)
 }

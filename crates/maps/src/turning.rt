@@ -26,16 +26,13 @@ pub fn named(bytes: &[u8], node: SysNode) -> AppNode
     requires { length bytes.now ≡ map_size }
     ensures { result.0 ≡ application_node (nodes_in bytes.now) node.0 }
 {
-    let mut a: u8 = 0;
-    while (a as usize) < bytes.len() {
-        let entry = bytes[a as usize];
-        if entry == NO_NODE {
+    for (a, entry) in bytes.iter().enumerate() {
+        if *entry == NO_NODE {
             return AppNode(NO_NODE);
         }
-        if entry == node.0 {
-            return AppNode(a);
+        if *entry == node.0 {
+            return AppNode(a as u8);
         }
-        a += 1;
     }
     AppNode(NO_NODE)
 }
@@ -54,13 +51,11 @@ pub fn turned_mask(bytes: &[u8], len: u8, user: u64) -> Mask
     ensures { result.0 ≡ system_mask (nodes_in bytes.now) user }
 {
     let mut out = Mask::EMPTY;
-    let mut a: u8 = 0;
-    while a < len {
+    for a in 0..len {
         if (user >> a) % 2 == 1 {
             let node = node_at(bytes, AppNode(a));
             out = out.insert(node);
         }
-        a += 1;
     }
     out
 }
@@ -70,13 +65,7 @@ pub fn places_within(places: [u8; PLACES_PER_JOB], count: usize, len: u8) -> boo
     requires { count ≤ places_per_job }
     ensures { result ≡ all (λ a. ltb a len) (take count places) }
 {
-    let mut ok = true;
-    let mut i: usize = 0;
-    while i < count {
-        ok = ok & (places[i] < len);
-        i += 1;
-    }
-    ok
+    places[..count].iter().all(|a| *a < len)
 }
 
 // The system node of a place, in a map of `len` nodes: its entry. 255 where it has none, so a closing 255 stays.
@@ -101,10 +90,8 @@ pub fn turned_places(
     ensures { result ≡ take places_per_job (map (system_node (nodes_in bytes.now)) (take count places) ++ replicate places_per_job 0) }
 {
     let mut out = [0u8; PLACES_PER_JOB];
-    let mut i: usize = 0;
-    while i < count {
-        out[i] = place_node(bytes, len, AppNode(places[i])).0;
-        i += 1;
+    for (i, &place) in places[..count].iter().enumerate() {
+        out[i] = place_node(bytes, len, AppNode(place)).0;
     }
     out
 }
@@ -120,15 +107,12 @@ pub fn keep(bytes: &[u8], len: u8, list: &[u8]) -> Option<[u8; MAP_BYTES]>
     }
     let mut out = [NO_NODE; MAP_BYTES];
     let mut least: u8 = 0;
-    let mut i: usize = 0;
-    while i < list.len() {
-        let a = list[i];
+    for (i, &a) in list.iter().enumerate() {
         if (a < least) | (len <= a) {
             return None;
         }
         out[i] = node_at(bytes, AppNode(a)).0;
         least = a + 1;
-        i += 1;
     }
     Some(out)
 }
@@ -140,5 +124,5 @@ pub fn store(maps: &mut [u8], job: usize, bytes: [u8; MAP_BYTES])
 {
     let start = MAP_BYTES * job;
     let end = start + MAP_BYTES;
-    rules::copy(&bytes, &mut maps[start..end]);
+    maps[start..end].copy_from_slice(&bytes);
 }

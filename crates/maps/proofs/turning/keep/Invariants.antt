@@ -1,6 +1,6 @@
 -- `keep` meets its contract. The loop: the entries of the numbers before `i` are written, FF follows, and the numbers from `i` on decide.
 -- Assumes nothing.
-use Prim.Native.Nat.{◌-◌, ◌≤◌}
+use Prim.Native.Nat.{◌≤◌}
 use mathlib.Core.Path.{◌≡◌}
 use mathlib.Core.List.{map}
 use lib.ListN.{length, drop}
@@ -15,6 +15,3 @@ invariant-loop-i l = (l.i ≤ length l.list)
     × (l.least ≤ l.len)
     × (l.out ≡ filled 64 255 (map (system_node (nodes_in l.bytes)) l.list) l.i)
     × (keeps l.len 0 l.list ≡ keeps l.len l.least (drop l.i l.list))
-
-abbrev pub decreases-loop-i : goal.decreases-loop-i
-decreases-loop-i l = length l.list - l.i

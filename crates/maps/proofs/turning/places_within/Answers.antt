@@ -1,21 +1,25 @@
--- `places_within` meets its contract: the tests so far and those of the places to come are the tests of all of them.
+-- `places_within` meets its contract: std's test of all of a list is the rules' one.
 -- Assumes nothing.
-use mathlib.Core.Path.{◌≡◌, sym, ◌∙◌}
-use native.Mathlib.Omega.{arith}
-use borrow.Author.Rules.{rules}
+use Prim.Native.Nat.{ℕ}
+use mathlib.Core.Path.{◌≡◌, refl, ap, ◌∙◌}
+use mathlib.Core.Bool.{Bool, ◌&&◌}
+use mathlib.Core.List.{List, [], ◌∷◌}
+use Rattle.std.proofs.Common.{rules, tests}
+use Rattle.std.proofs.lemmas.Iterator.{YieldsList-from_slice}
+use Rattle.std.proofs.lemmas.Iterator.Search.{all_from_yields_List}
 use lib.Dec.{ltb}
-use lib.ListN.{length, take}
-use lib.Seq.{length-take-le, get_or-take}
-use Rattle.machine.proofs.Tables.{all_step, all_end}
+use lib.ListN.{take}
+use Rattle.std.specs.List.{list_all}
+use Rattle.rules.specs.Basics.{all}
 use Rattle.maps.proofs.turning.places_within.Goals as goal
 
-pub loop-i-preserved : goal.loop-i-preserved
-loop-i-preserved c = let xs = take c.args.count c.args.places in
-    let long : length xs ≡ c.args.count = length-take-le c.args.count c.args.places (omega arith) in
-    let step = all_step (λ k. ltb k c.args.len) xs c.loop-i.i c.loop-i.ok (omega arith) in
-    (search rules, c.loop-i.invariant.1, rw (sym (get_or-take c.args.count c.args.places c.loop-i.i 0 c.loop-i-test.true)) (sym step ∙ c.loop-i.invariant.2))
+same_all : (p : ℕ → Bool) (xs : List ℕ) → list_all p xs ≡ all p xs
+unfolding all
+same_all p [] = refl
+same_all p (x ∷ xs) = ap (λ (t : Bool). p x && t) (same_all p xs)
 
 pub returns : goal.returns
-returns c = let xs = take c.args.count c.args.places in
-    let long : length xs ≡ c.args.count = length-take-le c.args.count c.args.places (omega arith) in
-    sym (all_end (λ k. ltb k c.args.len) xs c.loop-i.i c.loop-i.ok (omega arith)) ∙ c.loop-i.invariant.2
+returns c =
+    let places = take c.args.count c.args.places in
+    all_from_yields_List (λ a. ltb a c.args.len) _ _ c.all.result c.all.ensures.ran (YieldsList-from_slice places cc) (λ x b q k. search (rules, tests))
+    ∙ same_all (λ a. ltb a c.args.len) places

@@ -16,20 +16,18 @@ insert-out-requires c = let nodes = nodes_in c.args.bytes.now in
     omega (arith, c.node_at-node.ensures, entry_below 64 nodes c.loop-a.a 255 c.requires.2 (omega arith))
 
 pub loop-a-preserved : goal.loop-a-preserved
-loop-a-preserved c = let f = system_node (nodes_in c.args.bytes.now) in (
-  omega arith,
-  elim c.if-user-a-eq1.branch [
-    | then-user-a-eq1 w ↦
-        rw (w.out-is, w.insert-out.ensures)
-        (image_more c.args.user f c.loop-a.a c.loop-a.out.0 c.loop-a.invariant.1 w.node_at-node.result.0 w.if-user-a-eq1.true w.node_at-node.ensures)
-    | else-user-a-eq1 w ↦ rw w.out-is (image_same c.args.user f c.loop-a.a c.loop-a.out.0 c.loop-a.invariant.1 w.if-user-a-eq1.false)
-  ],
-)
+loop-a-preserved c = let f = system_node (nodes_in c.args.bytes.now) in
+    elim c.if-user-a-eq1.branch [
+      | then-user-a-eq1 w ↦
+          rw (w.out-is, w.insert-out.ensures)
+          (image_more c.args.user f c.loop-a.a c.loop-a.out.0 c.loop-a.invariant w.node_at-node.result.0 w.if-user-a-eq1.true w.node_at-node.ensures)
+      | else-user-a-eq1 w ↦ rw w.out-is (image_same c.args.user f c.loop-a.a c.loop-a.out.0 c.loop-a.invariant w.if-user-a-eq1.false)
+    ]
 
 pub returns : goal.returns
 unfolding system_mask
 returns c = let e : c.loop-a.a ≡ length (nodes_in c.args.bytes.now) = omega arith in
-    c.loop-a.invariant.1 ∙ ap (image c.args.user (system_node (nodes_in c.args.bytes.now))) e
+    c.loop-a.invariant ∙ ap (image c.args.user (system_node (nodes_in c.args.bytes.now))) e
 
 pub loop-a-init : goal.loop-a-init
 unfolding image
