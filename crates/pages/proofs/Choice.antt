@@ -2,7 +2,7 @@
 -- Assumes nothing.
 use Prim.Native.Nat.{ℕ, ◌+◌, ◌%◌, ◌≤◌, ◌<◌, zero-le}
 use mathlib.Core.Path.{◌≡◌, refl, ap, sym, ◌∙◌}
-use mathlib.Core.Bool.{Bool, true, false}
+use mathlib.Core.Bool.{Bool, true, false, false≢true}
 use mathlib.Core.List.{List}
 use mathlib.Core.Option.{none, some}
 use native.Mathlib.Nat.{le_refl}
@@ -12,7 +12,9 @@ use lib.Dec.{ltb}
 use lib.ListN.{length, get_or, drop}
 use Rattle.rules.specs.Basics.{keep, first}
 use Rattle.rules.proofs.Lists.{first_append, none_append, entry_same}
-use Rattle.pages.specs.FirstZero.{shift, first_zero}
+use Rattle.std.specs.Prelude.{Option, Some, None, is_some}
+use Rattle.pages.specs.declared.Offset.{Offset}
+use Rattle.pages.specs.FirstZero.{offset_of, shift, first_zero}
 use Rattle.pages.specs.Colours.{is_free, free_from, free_of, pick_of, HeldBefore}
 use Rattle.pages.proofs.Colours.{Lowest, lowest, free_there, there_free, free_in, of_past, of_next, of_here, zero_found, zero_whole, none_empty}
 
@@ -65,10 +67,12 @@ module _ (c : ℕ) (part : List ℕ) where
       pub pick_ahead : (i : ℕ) → b ≤ i → i < b + 4 → i % 4 ≡ c → is_free part i ≡ true → pick_of c part ≡ some i
       pick_ahead = pick_near b (of_ahead b (le_refl b))
 
-      -- a page of the colour from an index before it on
-      pub pick_of_lem : (a : ℕ) {i : ℕ} → a ≤ b → first (free_of c a part) ≡ some i → pick_of c part ≡ some i
-      pick_of_lem a m q = pick_coloured a (of_ahead a m) q
+      -- the first page of the colour from an index before it on, if there is one
+      pub pick_found : (a : ℕ) → a ≤ b → (r : Option Offset) → offset_of r ≡ first (free_of c a part) → is_some r ≡ true → offset_of r ≡ pick_of c part
+      pick_found a m (Some i) q t = sym (pick_coloured a (of_ahead a m) (sym q))
+      pick_found a m None q t = absurd (false≢true t)
 
       -- there is none
-      pub pick_lowest : (a : ℕ) → a ≤ b → first (free_of c a part) ≡ none → pick_of c part ≡ first_zero part
-      pick_lowest a m q = pick_other a (of_ahead a m) q
+      pub pick_lowest : (a : ℕ) → a ≤ b → (r : Option Offset) → offset_of r ≡ first (free_of c a part) → is_some r ≡ false → pick_of c part ≡ first_zero part
+      pick_lowest a m (Some i) q t = absurd (false≢true (sym t))
+      pick_lowest a m None q t = pick_other a (of_ahead a m) (sym q)

@@ -4,14 +4,15 @@ use Prim.Native.Nat.{ℕ, zero, suc, ◌+◌, ◌-◌, ◌≤◌, ◌<◌}
 use mathlib.Core.Path.{◌≡◌, refl, ap, sym, ◌∙◌}
 use mathlib.Core.Bool.{Bool, true, false, not, cond}
 use mathlib.Core.List.{List, [], ◌∷◌, ◌++◌, map}
-use mathlib.Core.Option.{none, some}
+use Rattle.std.specs.Prelude.{Option, Some, None, is_some}
 use native.Mathlib.Nat.{add-zero, add-sub_cancel_left}
 use native.Mathlib.Omega.{arith}
 use lib.Dec.{eqb}
 use lib.ListN.{length, get_or, take, drop, length-take, length-drop}
 use lib.Seq.{get_or-take, get_or-drop}
 use Rattle.rules.specs.Basics.{keep, first, is_nil, from}
-use Rattle.pages.specs.FirstZero.{shift}
+use Rattle.pages.specs.declared.Offset.{Offset}
+use Rattle.pages.specs.FirstZero.{offset_of, shift}
 use Rattle.pages.specs.Colours.{is_free, is_of, free_from, free_of, pick_of}
 
 -- numbers that are each a more, and a test of them
@@ -68,16 +69,13 @@ pick_part c ledger a k l =
 
 -- ---- is there a free page?
 
--- a first free page, and none
-pub some_free : (xs : List ℕ) {i : ℕ} → first xs ≡ some i → true ≡ not (is_nil xs)
+-- a search for the first of a list finds one exactly where the list has one
+pub some_found : (r : Option Offset) (xs : List ℕ) → offset_of r ≡ first xs → is_some r ≡ not (is_nil xs)
 unfolding first is_nil
-some_free [] e = absurd (let z : ◌≡◌ {A = ℕ} 0 1 = cc in omega arith)
-some_free (x ∷ xs) e = refl
-
-pub none_free : (xs : List ℕ) → first xs ≡ none → false ≡ not (is_nil xs)
-unfolding first is_nil
-none_free [] e = refl
-none_free (x ∷ xs) e = absurd (let z : ◌≡◌ {A = ℕ} 0 1 = cc in omega arith)
+some_found (Some i) [] e = absurd (let z : ◌≡◌ {A = ℕ} 0 1 = cc in omega arith)
+some_found (Some i) (x ∷ xs) e = refl
+some_found None [] e = refl
+some_found None (x ∷ xs) e = absurd (let z : ◌≡◌ {A = ℕ} 0 1 = cc in omega arith)
 
 -- of the k pages from a on: some one is free exactly where one of the part is
 pub free_part : (ledger : List ℕ) (a k : ℕ) → a + k ≤ length ledger

@@ -3,12 +3,12 @@
 
 #![tactic(auto)]
 
-ghost use Rattle.std.specs.Prelude.{◌≡◌, false, not, cond, ℕ, ◌+◌, ◌^◌, ◌%◌, ◌≤◌, ◌<◌, eqb, length, get_or, drop};
+ghost use Rattle.std.specs.Prelude.{◌≡◌, false, true, not, cond, ℕ, ◌+◌, ◌^◌, ◌%◌, ◌≤◌, ◌<◌, eqb, length, get_or, take, drop};
 ghost use Rattle.rules.specs.Basics.{first, is_nil};
 ghost use Rattle.pages.specs.FirstZero.{offset_of, shift, first_zero, mark, has_zero, zero_or_end, zeros};
 ghost use Rattle.pages.specs.Colours.{is_free, free_from, free_of, pick_of, HeldBefore, Clears, HeldUnder};
 
-use rules::{Page, lower};
+use rules::Page;
 
 // How far a page stands from the first page of its part.
 #[derive(Clone, Copy, Debug, PartialEq, Eq, PartialOrd, Ord)]
@@ -29,19 +29,18 @@ fn has_zero(block: &[u8]) -> bool
     ensures { result ≡ has_zero block.now }
 {
     let mut any = false;
-    let mut i = 0;
-    while i < block.len() {
-        any = any | (block[i] == 0);
-        i += 1;
+    for byte in block {
+        any = any | (*byte == 0);
     }
     any
 }
 
-// Passes over whole blocks that have no 0, from an index on.
+// Passes over whole blocks that have no 0, from an index on: up to one that has, or too few bytes for a block.
 fn skip(part: &[u8], from: usize, block: usize) -> usize
     requires { (from ≤ length part.now) × (0 < block) }
     ensures within { result ≤ length part.now }
     ensures same { shift from (first_zero (drop from part.now)) ≡ shift result (first_zero (drop result part.now)) }
+    ensures stops { result + block ≤ length part.now → has_zero (take block (drop result part.now)) ≡ true }
 {
     let mut i = from;
     while block <= part.len() - i {
@@ -83,10 +82,8 @@ fn lowest_zero(block: &[u8]) -> usize
 {
     let len = block.len() as u8;
     let mut lowest = len;
-    let mut i: u8 = 0;
-    while i < len {
-        lowest = lower(lowest, index_of_zero(block[i as usize], i, len));
-        i += 1;
+    for (i, byte) in block.iter().enumerate() {
+        lowest = lowest.min(index_of_zero(*byte, i as u8, len));
     }
     lowest as usize
 }
@@ -111,14 +108,10 @@ fn first_free(part: &[u8], from: usize) -> Option<Offset>
     }
     let wide = skip(part, from, 128);
     let narrow = skip(part, wide, 16);
-    let mut i = narrow;
-    while i < part.len() {
-        let end = block_end(part.len(), i, 16);
-        let at = i + lowest_zero(&part[i..end]);
-        if at < end {
-            return Some(Offset(at));
-        }
-        i = end;
+    let end = part.len().min(narrow + 16);
+    let at = narrow + lowest_zero(&part[narrow..end]);
+    if at < end {
+        return Some(Offset(at));
     }
     None
 }
@@ -127,11 +120,7 @@ fn first_free(part: &[u8], from: usize) -> Option<Offset>
 pub fn has_free(part: &[u8]) -> bool
     ensures { result ≡ not (is_nil (free_from 0 part.now)) }
 {
-    let found = first_free(part, 0);
-    match found {
-        Some(_) => true,
-        None => false,
-    }
+    first_free(part, 0).is_some()
 }
 
 // 1 for a byte that is 0.
@@ -150,10 +139,8 @@ fn zeros_in(block: &[u8]) -> u8
     ensures { result ≡ zeros block.now }
 {
     let mut count: u8 = 0;
-    let mut i = 0;
-    while i < block.len() {
-        count = count + one_if_zero(block[i]);
-        i += 1;
+    for byte in block {
+        count += one_if_zero(*byte);
     }
     count
 }
@@ -178,10 +165,7 @@ fn lowest_free(part: &[u8], from: usize, ahead: Option<Offset>) -> Option<Offset
     ensures { offset_of result ≡ first_zero part.now }
 {
     let behind = first_free(&part[0..from], 0);
-    match behind {
-        Some(i) => Some(i),
-        None => ahead,
-    }
+    behind.or(ahead)
 }
 
 // A mask's byte at an index: 0 at the colour.
@@ -199,10 +183,8 @@ fn mask_of(colour: usize) -> [u8; 16]
     ensures { Clears colour result }
 {
     let mut mask = [255u8; 16];
-    let mut i = 0;
-    while i < 16 {
-        mask[i] = shade(i, colour);
-        i += 1;
+    for (i, byte) in mask.iter_mut().enumerate() {
+        *byte = shade(i, colour);
     }
     mask
 }
@@ -213,10 +195,8 @@ fn lowest_of(block: &[u8], i: usize) -> u8
     ensures { (j : ℕ) → j < 128 → j % 16 ≡ i → result ≤ get_or block.now j 0 }
 {
     let mut lowest = 255u8;
-    let mut k = 0;
-    while k < 8 {
-        lowest = lower(lowest, block[16 * k + i]);
-        k += 1;
+    for k in 0..8 {
+        lowest = lowest.min(block[16 * k + i]);
     }
     lowest
 }
@@ -227,10 +207,8 @@ fn has_clear(block: &[u8], mask: &[u8; 16]) -> bool
     ensures { result ≡ false → HeldUnder mask.now 16 block.now }
 {
     let mut any = false;
-    let mut i = 0;
-    while i < 16 {
-        any = any | ((lowest_of(block, i) | mask[i]) == 0);
-        i += 1;
+    for (i, shade) in mask.iter().enumerate() {
+        any = any | ((lowest_of(block, i) | *shade) == 0);
     }
     any
 }
@@ -260,12 +238,10 @@ fn first_coloured(part: &[u8], from: usize, colour: usize) -> Option<Offset>
 {
     let mask = mask_of(colour);
     let start = skip_masked(part, from, &mask);
-    let mut at = start + colour;
-    while at < part.len() {
+    for at in (start + colour..part.len()).step_by(4) {
         if part[at] == 0 {
             return Some(Offset(at));
         }
-        at += 4;
     }
     None
 }
@@ -288,21 +264,18 @@ fn choose(part: &[u8], from: usize, colour: usize) -> Option<Offset>
         return Some(Offset(next));
     }
     let ahead = first_free(part, from);
-    match ahead {
-        Some(b) => {
-            let near = next_of(b.0, colour);
-            if is_free(part, near) {
-                return Some(Offset(near));
-            }
-            let group = b.0 - b.0 % 4;
-            let coloured = first_coloured(part, group, colour);
-            match coloured {
-                Some(i) => Some(i),
-                None => lowest_free(part, from, ahead),
-            }
+    if let Some(lowest) = ahead {
+        let near = next_of(lowest.0, colour);
+        if is_free(part, near) {
+            return Some(Offset(near));
         }
-        None => lowest_free(part, from, ahead),
+        let group = lowest.0 - lowest.0 % 4;
+        let coloured = first_coloured(part, group, colour);
+        if coloured.is_some() {
+            return coloured;
+        }
     }
+    lowest_free(part, from, ahead)
 }
 
 // Marks the page that a job of the colour gets. Pages of the colour before `from` are held.
@@ -311,13 +284,7 @@ pub fn pick(part: &mut [u8], from: usize, colour: usize, holder: u8) -> Option<O
     ensures answer { offset_of result ≡ pick_of colour part.old }
     ensures table { part.new ≡ mark part.old (pick_of colour part.old) holder }
 {
-    let page = choose(part, from, colour);
-    match page {
-        Some(i) => {
-            let at = i.0;
-            part[at] = holder;
-            Some(i)
-        }
-        None => None,
-    }
+    let page = choose(part, from, colour)?;
+    part[page.0] = holder;
+    Some(page)
 }

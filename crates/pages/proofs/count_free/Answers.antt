@@ -1,13 +1,12 @@
 -- `count_free` meets its contract.
 -- Assumes nothing.
-use Prim.Native.Nat.{◌+◌, ◌-◌, ◌≤◌}
-use mathlib.Core.Path.{◌≡◌, refl}
+use Prim.Native.Nat.{◌+◌, ◌-◌}
+use mathlib.Core.Path.{◌≡◌}
 use native.Mathlib.Omega.{arith}
 use borrow.Author.Rules.{rules}
-use lib.ListN.{length, take, drop, length-take, length-drop}
+use lib.ListN.{drop}
 use lib.Seq.{drop-drop}
-use Rattle.pages.specs.FirstZero.{zeros}
-use Rattle.pages.proofs.Zeros.{zeros_split, zeros_end, zeros_most}
+use Rattle.pages.proofs.Zeros.{zeros_split, zeros_most}
 use Rattle.pages.proofs.count_free.Goals as goal
 
 pub overflow_add-count : goal.overflow_add-count

@@ -1,12 +1,9 @@
 -- `first_coloured` meets its contract. The loop's invariant: the index is of the colour, and no free page of the colour is passed.
 -- Assumes nothing.
-use Prim.Native.Nat.{◌+◌, ◌-◌, ◌%◌}
+use Prim.Native.Nat.{◌+◌, ◌%◌}
 use mathlib.Core.Path.{◌≡◌, sym, ap, ◌∙◌}
 use native.Mathlib.Omega.{arith}
-use borrow.Author.Rules.{rules}
-use lib.ListN.{length}
 use Rattle.rules.specs.Basics.{first}
-use Rattle.pages.specs.Colours.{free_of}
 use Rattle.pages.proofs.Colours.{of_next, of_stride, of_here, of_end}
 use Rattle.pages.proofs.first_coloured.Goals as goal
 
@@ -30,3 +27,10 @@ loop-at-preserved c = (
 pub returns : goal.returns
 unfolding first
 returns c = sym (ap first (c.loop-at.invariant.1 ∙ of_end c.args.colour c.args.part.now c.loop-at.at c.loop-at-test.false))
+
+pub returns-else-part-at-eq0 : goal.returns-else-part-at-eq0
+unfolding first
+returns-else-part-at-eq0 c = sym
+    (ap first
+    (c.loop-at.invariant.1 ∙ of_stride c.args.colour c.args.part.now c.loop-at.at c.loop-at.invariant.0 c.if-part-at-eq0.false
+    ∙ of_end c.args.colour c.args.part.now (c.loop-at.at + 4) (omega arith)))

@@ -1,13 +1,9 @@
 -- `first_coloured` meets its contract. The loop's invariant: the index is of the colour, and no free page of the colour is passed.
 -- Assumes nothing.
-use Prim.Native.Nat.{◌+◌, ◌-◌, ◌%◌}
-use mathlib.Core.Path.{◌≡◌, sym, ap, ◌∙◌}
-use native.Mathlib.Omega.{arith}
-use borrow.Author.Rules.{rules}
+use Prim.Native.Nat.{◌-◌, ◌%◌}
+use mathlib.Core.Path.{◌≡◌}
 use lib.ListN.{length}
-use Rattle.rules.specs.Basics.{first}
 use Rattle.pages.specs.Colours.{free_of}
-use Rattle.pages.proofs.Colours.{of_next, of_stride, of_here, of_end}
 use Rattle.pages.proofs.first_coloured.Given as goal
 
 abbrev pub invariant-loop-at : goal.invariant-loop-at

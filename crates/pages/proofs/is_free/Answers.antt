@@ -1,6 +1,5 @@
 -- `is_free` meets its contract.
 -- Assumes nothing.
-use borrow.Author.Rules.{rules}
 use Rattle.pages.proofs.Colours.{free_read, free_past}
 use Rattle.pages.proofs.is_free.Goals as goal
 

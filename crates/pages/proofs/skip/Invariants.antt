@@ -1,14 +1,9 @@
 -- `skip` meets its contract.
 -- Assumes nothing.
 use Prim.Native.Nat.{◌-◌, ◌≤◌}
-use mathlib.Core.Path.{◌≡◌, refl, sym, ◌∙◌}
-use mathlib.Core.Bool.{false}
-use native.Mathlib.Nat.{add-sub_cancel_left}
-use native.Mathlib.Omega.{arith}
-use borrow.Author.Rules.{rules}
-use lib.ListN.{length, take, drop}
-use Rattle.pages.specs.FirstZero.{shift, first_zero, has_zero}
-use Rattle.pages.proofs.FirstZero.{block_past}
+use mathlib.Core.Path.{◌≡◌}
+use lib.ListN.{length, drop}
+use Rattle.pages.specs.FirstZero.{shift, first_zero}
 use Rattle.pages.proofs.skip.Given as goal
 
 abbrev pub invariant-loop-i : goal.invariant-loop-i

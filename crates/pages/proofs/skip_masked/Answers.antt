@@ -1,12 +1,11 @@
 -- `skip_masked` meets its contract.
 -- Assumes nothing.
-use Prim.Native.Nat.{ℕ, ◌-◌, ◌%◌, ◌≤◌}
-use mathlib.Core.Path.{◌≡◌, refl, ◌∙◌}
+use mathlib.Core.Path.{◌∙◌}
 use native.Mathlib.Nat.{add-sub_cancel_left}
 use native.Mathlib.Omega.{arith}
 use borrow.Author.Rules.{rules}
-use lib.ListN.{length, take, drop, length-take, length-drop}
-use Rattle.pages.specs.Colours.{Clears, free_of, HeldUnder}
+use lib.ListN.{take, drop}
+use Rattle.pages.specs.Colours.{HeldUnder}
 use Rattle.pages.proofs.Masked.{held_past}
 use Rattle.pages.proofs.skip_masked.Goals as goal
 

@@ -1,13 +1,9 @@
 -- `skip_masked` meets its contract.
 -- Assumes nothing.
 use Prim.Native.Nat.{ℕ, ◌-◌, ◌%◌, ◌≤◌}
-use mathlib.Core.Path.{◌≡◌, refl, ◌∙◌}
-use native.Mathlib.Nat.{add-sub_cancel_left}
-use native.Mathlib.Omega.{arith}
-use borrow.Author.Rules.{rules}
-use lib.ListN.{length, take, drop, length-take, length-drop}
-use Rattle.pages.specs.Colours.{Clears, free_of, HeldUnder}
-use Rattle.pages.proofs.Masked.{held_past}
+use mathlib.Core.Path.{◌≡◌}
+use lib.ListN.{length}
+use Rattle.pages.specs.Colours.{Clears, free_of}
 use Rattle.pages.proofs.skip_masked.Given as goal
 
 abbrev pub invariant-loop-start : goal.invariant-loop-start
