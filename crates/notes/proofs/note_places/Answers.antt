@@ -4,8 +4,6 @@ use Prim.Native.Nat.{ℕ, ◌+◌, ◌*◌, ◌≤◌}
 use mathlib.Core.Path.{◌≡◌, sym, ap, subst, ◌∙◌}
 use mathlib.Core.Bool.{true}
 use mathlib.Core.List.{List}
-use borrow.Author.Rules.{rules}
-use borrow.Author.Tests.{not-true, not-false}
 use lib.ListN.{length}
 use Rattle.rules.specs.Calls.{is_job, mapped_tables_ok}
 use Rattle.rules.specs.Maps.{map_size, map_bytes, nodes_in}
@@ -58,7 +56,7 @@ turn_note-requires c = let in_order : mapped_tables_ok c.args.nodes (length c.ar
     (λ (bytes : List ℕ). Judges c.args.nodes bytes c.judge-judged.result) c.of_job-map.ensures c.judge-judged.ensures in
     let few = mapped_nodes c.args.nodes (length c.args.jobs.now) (length c.args.maps.now) in_order in
     let good = (judged_good _ _ told c.in-Good.is).0 in
-    (few.1, rw c.of_job-map.ensures (map_long _ _ in-table), rw c.of_job-map.ensures good, named)
+    (c.args.nodes, (few.1, rw c.of_job-map.ensures (map_long _ _ in-table), rw c.of_job-map.ensures good, named))
 
 pub returns-in-Good : goal.returns-in-Good
 returns-in-Good c = let in_order : mapped_tables_ok c.args.nodes (length c.args.jobs.now) (length c.args.maps.now) ≡ true = sym c.mapped_ok.ensures ∙

@@ -1,10 +1,6 @@
 -- `turn_list` meets its contract: the line's places are copied, if they fit.
 -- Assumes nothing.
-use mathlib.Core.Path.{refl, sym, ap, ◌∙◌}
 use native.Mathlib.Omega.{arith}
-use lib.ListN.{length}
-use borrow.Author.Rules.{rules}
-use Rattle.notes.proofs.Tests.{long_enough}
 use Rattle.notes.proofs.Writes.{too_short, written_copy}
 use Rattle.notes.proofs.places.turn_list.Goals as goal
 

@@ -3,8 +3,6 @@
 use mathlib.Core.Path.{◌≡◌, sym, ◌∙◌}
 use mathlib.Core.Bool.{true}
 use native.Mathlib.Omega.{arith}
-use borrow.Author.Rules.{rules}
-use borrow.Author.Tests.{not-true, not-false}
 use Rattle.rules.specs.Notes.{note_ok}
 use Rattle.notes.proofs.Notes.{good_note, no_note, name_below}
 use Rattle.notes.proofs.reader.has_name.Goals as goal
