@@ -55,9 +55,6 @@ pub record Looked (table left w : List ℕ) (n : ℕ) : Type 0 where
   pub some : any (same w) (strings table) ≡ any (same w) (strings left)
   pub number : first_match w (strings table) ≡ n + first_match w (strings left)
 
-pub match_start : (table w : List ℕ) → Looked table table w 0
-match_start table w = record { room = omega arith; some = refl; number = omega arith }
-
 module _ (table left w : List ℕ) (n : ℕ) (h : Looked table left w n) where
   pub match_none : strings left ≡ [] → any (same w) (strings table) ≡ false
   unfolding any

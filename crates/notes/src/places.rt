@@ -58,8 +58,8 @@ fn turn_list(map: &[u8], table: &[u8], list: &[u8], out: &mut [u8]) -> Decision
     if out.len() < len {
         return Decision::Refuse(Refusal::OutputTooShort);
     }
-    let size = rules::copy(&line[..len], out);
-    Decision::Accept(size as u64)
+    out[..len].copy_from_slice(&line[..len]);
+    Decision::Accept(len as u64)
 }
 
 // The tests 16 and 11, and the places of a note's list.

@@ -1,11 +1,8 @@
 -- `strings_from` meets its contract: a string and its zero are passed at a time.
 -- Assumes nothing.
 use Rattle.std.proofs.Common.{arith}
-use Rattle.notes.proofs.Starts.{passed_start, passed_last, passed_all, passed_next}
+use Rattle.notes.proofs.Starts.{passed_last, passed_all, passed_next}
 use Rattle.notes.proofs.list.strings_from.Goals as goal
-
-pub loop-passed-init : goal.loop-passed-init
-loop-passed-init c = passed_start _ _ _ (omega arith)
 
 pub loop-passed-preserved : goal.loop-passed-preserved
 loop-passed-preserved c = passed_next _ _ _ _ c.loop-passed.invariant _ _ _ (omega (arith, c.loop-passed-test.true)) c.in-Some.ensures

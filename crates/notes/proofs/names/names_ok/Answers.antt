@@ -16,8 +16,5 @@ loop-name-preserved c = let v = c.loop-name.invariant in record {
   good = v.good ∙ rest_good _ _ _ _ _ c.in-Some.ensures (sym c.if-not-name_ok.ensures);
 }
 
-pub loop-name-smaller : goal.loop-name-smaller
-loop-name-smaller c = omega (arith, c.in-Some.ensures.size)
-
 pub returns : goal.returns
 returns c = rest_last _ _ _ _ c.is_empty.ensures c.in_default.ensures ∙ sym c.loop-name.invariant.good
