@@ -165,7 +165,15 @@ module _ (note : List ℕ) (k : ℕ) where
       let there = name_there e in
       let l : k < length (strings rest) = omega (arith, there.1, ap (λ (l : List ℕ). length (strings l)) z) in
       let start : length note - length names ≡ head_size + size_of (take k (strings rest)) =
-      omega (arith, w, ap length z, length-drop head_size note, ap length p, length-drop (size_of (take k (strings rest))) rest, (good_note note there.0).long) in
+      omega (
+        arith,
+        w,
+        ap length z,
+        length-drop head_size note,
+        ap length p,
+        length-drop (size_of (take k (strings rest))) rest,
+        (good_note note there.0).long,
+      ) in
       rw e
       (ap₂ part_at start (q ∙ ap word_length p ∙ string_length rest k l)
       ∙ ap (λ (ws : List (List ℕ)). part_at (head_size + size_of (take k ws)) (length (get_or ws k []))) (ap strings z ∙ note_strings note there.0))

@@ -26,7 +26,8 @@ module _ (out bytes : List ℕ) where
   written_whole l = rw (le-leb (length bytes) (length out) l)
 
   -- they are copied there
-  pub written_copy : {size : ℕ} {new : List ℕ} → size ≡ length bytes → size ≤ length out → new ≡ bytes → wrote (accept size) (new ++ drop size out) ≡ written out bytes
+  pub written_copy : {size : ℕ} {new : List ℕ} → size ≡ length bytes → size ≤ length out → new ≡ bytes
+      → wrote (accept size) (new ++ drop size out) ≡ written out bytes
   written_copy e l s = ap₂ (λ (k : ℕ) (t : List ℕ). wrote (accept k) (t ++ drop k out)) e s ∙ written_whole (omega arith)
 
 -- ---- the note
