@@ -1,25 +1,26 @@
 -- Laws on counting the names of a list, string by string. Assumes nothing.
-use mathlib.Core.Path.{◌≡◌, refl, sym, ap₂, ◌∙◌}
-use mathlib.Core.Bool.{Bool, true, false, not, ◌&&◌, cond, and-false}
+use mathlib.Core.Path.{◌≡◌, refl, sym, ap, ◌∙◌}
+use mathlib.Core.Bool.{Bool, true, false, not, ◌&&◌, and-false}
 use mathlib.Core.List.{List, [], ◌∷◌}
-use Prim.Native.Nat.{ℕ, suc, ◌+◌, ◌-◌, ◌≤◌, ◌<◌}
+use Prim.Native.Nat.{ℕ, suc, ◌+◌, ◌≤◌, ◌<◌}
 use native.Mathlib.Nat.{zero-add}
 use native.Mathlib.Omega.{arith}
 use lib.Dec.{eqb, leb}
-use lib.ListN.{length, take, drop, length-drop}
+use lib.ListN.{length}
 use borrow.Author.Tests.{eq-eqb, ne_eqb, le-leb, lt-leb, eqb-true, eqb-false}
 use Rattle.rules.specs.Basics.{same, is_nil, between}
 use Rattle.rules.specs.Notes.{strings, size_of, name_ok, names_ok, list_ok, text_word, data_word, any_word, closing_word}
-use Rattle.notes.specs.Steps.{word_length, name_count}
-use Rattle.notes.proofs.Words.{strings_found, strings_none, at_strings, at_length}
+use Rattle.notes.specs.Steps.{name_count, Split}
 
 -- n names before, the strings ws in len bytes to come: the list is good
 unfoldable pub fits : ℕ → List (List ℕ) → ℕ → Bool
 fits n ws len = eqb (size_of ws) len && leb (n + length ws) 16 && names_ok ws
 
--- the number of names of a list of which n were counted and xs is the rest
-unfoldable pub counted : ℕ → List ℕ → ℕ
-counted n xs = cond (fits n (strings xs) (length xs)) (n + length (strings xs)) 17
+-- n names of a list were counted, and left is the rest of it
+pub record Counted (list left : List ℕ) (n : ℕ) : Type 0 where
+  pub few : n ≤ 16
+  pub good : list_ok list ≡ fits n (strings left) (length left)
+  pub names : length (strings list) ≡ n + length (strings left)
 
 -- ---- tests
 
@@ -48,30 +49,27 @@ eqb_same a b c d f g = by (eqb a b) refl
 
 -- ---- counting
 
-pub counted_start : (xs : List ℕ) → name_count xs ≡ counted 0 xs
-unfolding name_count list_ok counted fits
-counted_start xs = rw (zero-add (length (strings xs)))
+pub counted_start : (list : List ℕ) → Counted list list 0
+unfolding list_ok fits
+counted_start list = record {
+  few = omega arith;
+  good = rw (zero-add (length (strings list))) refl;
+  names = omega arith;
+}
 
-pub counted_end : (n : ℕ) → n ≤ 16 → counted n [] ≡ n
-unfolding counted fits strings size_of names_ok
-counted_end n l =
-    let q : n + 0 ≡ n = omega arith in
-    rw (q, le-leb n 16 l)
+module _ (list left : List ℕ) (n : ℕ) (h : Counted list left n) (e : strings left ≡ []) where
+  -- bytes with no zero
+  pub counted_open : (length left ≡ 0 → ⊥) → list_ok list ≡ false
+  unfolding size_of
+  counted_open f = h.good ∙ rw e (size_off n [] (length left) (λ q. f (sym q)))
 
-refused : (n : ℕ) (xs : List ℕ) → fits n (strings xs) (length xs) ≡ false → counted n xs ≡ 17
-unfolding counted
-refused n xs e = rw e
-
--- bytes with no zero
-counted_none : (n : ℕ) (xs : List ℕ) → 0 < length xs → length xs ≤ word_length xs → counted n xs ≡ 17
-unfolding size_of
-counted_none n xs l m =
-    refused n xs (rw (strings_none xs m) (size_off n [] (length xs) (λ e. omega arith)))
-
--- a 17th name
-counted_full : (n : ℕ) (xs : List ℕ) → 16 ≤ n → word_length xs < length xs → counted n xs ≡ 17
-counted_full n xs l m =
-    refused n xs (rw (strings_found xs m) (too_many n (take (word_length xs) xs ∷ strings (drop (suc (word_length xs)) xs)) (length xs) (omega arith)))
+  pub counted_end : length left ≡ 0 → (list_ok list ≡ true) × (n ≡ name_count list)
+  unfolding name_count fits size_of names_ok
+  counted_end z =
+      let q : n + 0 ≡ n = omega arith in
+      let good : list_ok list ≡ true = h.good ∙ rw (e, z, q, le-leb n 16 h.few) refl in
+      let all : length (strings list) ≡ n = h.names ∙ rw e q in
+      (good, rw (good, all) refl)
 
 and_more : (p q : Bool) → (p && q) ≡ true → (p && true) ≡ true
 and_more true q e = refl
@@ -118,35 +116,19 @@ module _ (n : ℕ) (w rest : List ℕ) where
         z,
       )
 
--- ---- counting at a place of the list
+-- ---- counting the string that comes first
 
--- the string at i ends at e; n names before it
-module _ (list : List ℕ) (i e : ℕ) (l : i ≤ length list) (at : e ≡ i + word_length (drop i list)) (n : ℕ) where
-  pub at_none : i < length list → length list ≤ e → counted n (drop i list) ≡ 17
-  at_none m k = counted_none n (drop i list) (simp length-drop (omega arith)) (simp length-drop (omega arith))
+module _ (list left word rest : List ℕ) (n : ℕ) (h : Counted list left n) (s : Split left word rest) where
+  -- a 17th name
+  pub counted_full : 16 ≤ n → list_ok list ≡ false
+  counted_full m = h.good ∙ rw s.first (too_many n (word ∷ strings rest) (length left) (omega arith))
 
-  pub at_full : 16 ≤ n → e < length list → counted n (drop i list) ≡ 17
-  at_full m k = counted_full n (drop i list) m (simp length-drop (omega arith))
+  pub counted_bad : (last : Bool) → eqb (length rest) 0 ≡ last → name_ok word last ≡ false → list_ok list ≡ false
+  counted_bad last l e = h.good ∙ rw (s.first, s.size) (bad_name n word rest last l e)
 
-  module _ (k : e < length list) where
-    abbrev word : List ℕ
-    word = take (e - i) (drop i list)
-
-    abbrev rest : List ℕ
-    rest = drop (e + 1) list
-
-    last_is_lem : eqb (length rest) 0 ≡ eqb (e + 1) (length list)
-    last_is_lem = rw length-drop (eqb_same (length list - (e + 1)) 0 (e + 1) (length list) (λ q. omega arith) (λ q. omega arith))
-
-    pub at_bad : name_ok word (eqb (e + 1) (length list)) ≡ false → counted n (drop i list) ≡ 17
-    at_bad f =
-        refused n (drop i list)
-        (rw (at_strings list i e l at k, at_length list i e l at k) (bad_name n word rest (eqb (e + 1) (length list)) last_is_lem f))
-
-    pub at_good : name_ok word (eqb (e + 1) (length list)) ≡ true → counted n (drop i list) ≡ counted (n + 1) rest
-    unfolding counted
-    at_good t =
-        let g : fits n (strings (drop i list)) (length (drop i list)) ≡ fits (n + 1) (strings rest) (length rest) =
-        rw (at_strings list i e l at k, at_length list i e l at k) (good_name n word rest (eqb (e + 1) (length list)) last_is_lem t) in
-        let h : n + length (strings (drop i list)) ≡ n + 1 + length (strings rest) = rw (at_strings list i e l at k) (omega arith) in
-        ap₂ (λ (b : Bool) (m : ℕ). cond b m 17) g h
+  pub counted_next : n < 16 → (last : Bool) → eqb (length rest) 0 ≡ last → name_ok word last ≡ true → Counted list rest (n + 1)
+  counted_next m last l e = record {
+    few = omega arith;
+    good = h.good ∙ rw (s.first, s.size) (good_name n word rest last l e);
+    names = omega (arith, h.names, ap length s.first);
+  }

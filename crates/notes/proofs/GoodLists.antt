@@ -1,16 +1,18 @@
 -- What a good list is, and what its count says. Assumes nothing.
-use mathlib.Core.Path.{◌≡◌, refl}
+use mathlib.Core.Path.{◌≡◌, ◌∙◌}
 use mathlib.Core.Bool.{Bool, true, false, not, ◌&&◌}
 use mathlib.Core.List.{List, [], ◌∷◌}
 use Prim.Native.Nat.{ℕ, zero, suc, ◌*◌, ◌≤◌, ◌<◌}
 use native.Mathlib.Omega.{arith}
 use lib.Dec.{eqb, leb}
 use lib.ListN.{length, get_or}
-use borrow.Author.Tests.{le-leb, leb-true, eqb-true}
+use borrow.Author.Tests.{leb-true, eqb-true}
+use Rattle.std.specs.Prelude.{Option, Some, None}
+use Rattle.std.specs.Option.{option_eq}
 use Rattle.rules.specs.Basics.{all, is_nil, between, same}
 use Rattle.rules.specs.Notes.{strings, size_of, name_ok, names_ok, most_names, list_ok, table_ok, text_word, data_word, any_word}
 use Rattle.rules.proofs.Lists.{both_true, between_true, fails}
-use Rattle.notes.specs.Steps.{name_count}
+use Rattle.notes.specs.Steps.{name_count, IsCount}
 
 -- ---- a good list
 
@@ -84,42 +86,15 @@ long_table n table l = fails (λ e. omega (arith, (parts e).0, (parts e).1, (par
         let g = both_true {a = eqb (size_of ws) (length table)} h.0 in
         (eqb-true (size_of ws) (length table) g.0, eqb-true (length ws) n g.1, table_short ws h.1)
 
--- ---- what the count says of a list
+-- a long list is bad
+pub list_long : (list : List ℕ) → 256 < length list → list_ok list ≡ false
+list_long list l = fails (λ e. omega (arith, list_short list e))
 
 pub good_count : (list : List ℕ) → list_ok list ≡ true → name_count list ≡ length (strings list)
 unfolding name_count
 good_count list e = rw e
 
-bad_count : (list : List ℕ) → list_ok list ≡ false → name_count list ≡ 17
-unfolding name_count
-bad_count list e = rw e
-
--- a long list is bad
-pub long_count : (list : List ℕ) → 256 < length list → name_count list ≡ 17
-long_count list l = by (list_ok list) refl
-  where
-    by : (t : Bool) → list_ok list ≡ t → name_count list ≡ 17
-    by true e = absurd (omega (arith, list_short list e))
-    by false e = bad_count list e
-
--- the count tells a good list, and its number of names
-pub count_test : (list : List ℕ) (a : ℕ) → (leb (name_count list) most_names && eqb (name_count list) a) ≡ (list_ok list && eqb (length (strings list)) a)
-count_test list a = by (list_ok list) refl
-  where
-    by : (t : Bool) → list_ok list ≡ t → (leb (name_count list) most_names && eqb (name_count list) a) ≡ (list_ok list && eqb (length (strings list)) a)
-    by true e = rw (good_count list e, e, le-leb (length (strings list)) most_names (good_list list e).most)
-    by false e = rw (bad_count list e, e)
-
-pub list_bad : (list : List ℕ) → most_names < name_count list → list_ok list ≡ false
-list_bad list l = by (list_ok list) refl
-  where
-    by : (t : Bool) → list_ok list ≡ t → list_ok list ≡ false
-    by true e = absurd (omega (arith, good_count list e, (good_list list e).most))
-    by false e = e
-
-pub list_good : (list : List ℕ) → name_count list ≤ most_names → list_ok list ≡ true
-list_good list l = by (list_ok list) refl
-  where
-    by : (t : Bool) → list_ok list ≡ t → list_ok list ≡ true
-    by true e = e
-    by false e = absurd (omega (arith, bad_count list e))
+-- what `==` says of a count and a number
+pub count_is : (list : List ℕ) (a : ℕ) (r : Option ℕ) → IsCount list r → option_eq eqb r (Some a) ≡ (list_ok list && eqb (length (strings list)) a)
+count_is list a None h = rw h
+count_is list a (Some n) h = let e : n ≡ length (strings list) = h.1 ∙ good_count list h.0 in rw (h.0, e)

@@ -1,13 +1,13 @@
 -- Laws on the places of names. Assumes nothing.
 use mathlib.Core.Path.{◌≡◌, refl, sym, ap, ◌∙◌}
-use mathlib.Core.Bool.{Bool, true, false, ◌&&◌, ◌||◌, cond, and-false}
+use mathlib.Core.Bool.{Bool, true, false, ◌&&◌, cond, and-false}
 use mathlib.Core.List.{List, [], ◌∷◌, ◌++◌, map, append_assoc, append-nil}
 use mathlib.Core.Option.{none, some}
-use Prim.Native.Nat.{ℕ, suc, ◌+◌, ◌-◌, ◌≤◌, ◌<◌}
+use Prim.Native.Nat.{ℕ, suc, ◌+◌, ◌≤◌, ◌<◌}
 use native.Mathlib.Numerals.{add-one}
 use native.Mathlib.Omega.{arith}
 use lib.Dec.{eqb}
-use lib.ListN.{length, take, drop, set, length-set, drop_of_length-le}
+use lib.ListN.{length, take, set, length-set}
 use lib.Seq.{take-suc-set, length-take-le}
 use borrow.Author.Tests.{eqb-true}
 use Rattle.rules.specs.Basics.{all, any, same}
@@ -17,8 +17,7 @@ use Rattle.rules.specs.Records.{places_per_job, closing_place}
 use Rattle.rules.specs.Notes.{strings, size_of, most_names, closing_word, table_ok, first_match, is_known, place_of, places_in}
 use Rattle.rules.proofs.Lists.{both_true}
 use Rattle.rules.proofs.Maps.{named, not_named, map_nodes}
-use Rattle.notes.specs.Steps.{word_length, Tested, found_in}
-use Rattle.notes.proofs.Words.{at_strings, at_nothing}
+use Rattle.notes.specs.Steps.{Split, Tested, found_in}
 
 -- ---- the first match
 
@@ -30,26 +29,6 @@ match_le w (v ∷ vs) = by (same w v) (match_le w vs)
     by : (t : Bool) → first_match w vs ≤ length vs → cond t 0 (suc (first_match w vs)) ≤ suc (length vs)
     by true more = omega arith
     by false more = omega arith
-
-match_some : (w : List ℕ) (vs : List (List ℕ)) → first_match w vs < length vs → any (same w) vs ≡ true
-unfolding first_match any
-match_some w [] l = absurd (omega arith)
-match_some w (v ∷ vs) l = by (same w v) l (match_some w vs)
-  where
-    by : (t : Bool) → cond t 0 (suc (first_match w vs)) < suc (length vs) → (first_match w vs < length vs → any (same w) vs ≡ true)
-        → (t || any (same w) vs) ≡ true
-    by true h more = refl
-    by false h more = more (omega arith)
-
-match_none : (w : List ℕ) (vs : List (List ℕ)) → first_match w vs ≡ length vs → any (same w) vs ≡ false
-unfolding first_match any
-match_none w [] e = refl
-match_none w (v ∷ vs) e = by (same w v) e (match_none w vs)
-  where
-    by : (t : Bool) → cond t 0 (suc (first_match w vs)) ≡ suc (length vs) → (first_match w vs ≡ length vs → any (same w) vs ≡ false)
-        → (t || any (same w) vs) ≡ false
-    by true h more = absurd (omega arith)
-    by false h more = more (omega arith)
 
 -- ---- a name's place
 
@@ -77,9 +56,9 @@ module _ (n : ℕ) (bytes table : List ℕ) (t : Tested n bytes table) where
 
     module _ (e : same w closing_word ≡ false) where
       -- no name of the table is this one
-      pub found_none : first_match w (strings table) ≡ n → none ≡ found_in (strings table) (nodes_in bytes) w
+      pub found_none : any (same w) (strings table) ≡ false → none ≡ found_in (strings table) (nodes_in bytes) w
       unfolding found_in is_known
-      found_none m = rw (e, match_none w (strings table) (m ∙ sym names_long))
+      found_none m = rw (e, m)
 
       -- "a first match outside the map counting as an unknown name"
       pub found_outside : application_node (nodes_in bytes) (first_match w (strings table)) ≡ no_node → none ≡ found_in (strings table) (nodes_in bytes) w
@@ -93,17 +72,14 @@ module _ (n : ℕ) (bytes table : List ℕ) (t : Tested n bytes table) where
           by false i = rw (e, i, and-false (any (same w) (strings table)))
 
       -- "a place is the node's application number"
-      pub found_inside : (first_match w (strings table) ≡ n → ⊥) → (application_node (nodes_in bytes) (first_match w (strings table)) ≡ no_node → ⊥)
+      pub found_inside : any (same w) (strings table) ≡ true → (application_node (nodes_in bytes) (first_match w (strings table)) ≡ no_node → ⊥)
           → some (application_node (nodes_in bytes) (first_match w (strings table))) ≡ found_in (strings table) (nodes_in bytes) w
       unfolding found_in is_known place_of
       found_inside m o = by (is_in (nodes_in bytes) (first_match w (strings table))) refl
         where
-          below : first_match w (strings table) < length (strings table)
-          below = omega (arith, m, match_le w (strings table), names_long)
-
           by : (b : Bool) → is_in (nodes_in bytes) (first_match w (strings table)) ≡ b
               → some (application_node (nodes_in bytes) (first_match w (strings table))) ≡ found_in (strings table) (nodes_in bytes) w
-          by true i = rw (e, i, match_some w (strings table) below)
+          by true i = rw (e, i, m)
           by false i = absurd (o (not_named 0 (nodes_in bytes) (first_match w (strings table)) i))
 
 -- ---- the places of a list, name by name
@@ -143,64 +119,47 @@ module _ (names : List (List ℕ)) (nodes : List ℕ) where
             rw (k, s) (ap (λ (l : List ℕ). cond (all (is_known names nodes) ws) l []) (sym q))
         by false k f = let z : ◌≡◌ {A = ℕ} 0 1 = cc in absurd (omega arith)
 
--- ---- the loop over a list: n of its names are turned, the next string starts at i
+-- ---- the loop over a list: n of its names are turned, and left is the rest of it
 
-pub record Turned (names : List (List ℕ)) (nodes list line : List ℕ) (i n : ℕ) : Type 0 where
-  pub within : i ≤ length list
-  pub room : n + length (strings (drop i list)) ≤ most_names
+pub record Turned (names : List (List ℕ)) (nodes list left line : List ℕ) (n : ℕ) : Type 0 where
+  pub room : n + length (strings left) ≤ most_names
   pub long : length line ≡ places_per_job
-  pub places : places_in names nodes (strings list) ≡ places_left names nodes (take n line) (strings (drop i list))
+  pub places : places_in names nodes (strings list) ≡ places_left names nodes (take n line) (strings left)
 
 -- what the loop leaves
 abbrev Put : List (List ℕ) → List ℕ → List ℕ → List ℕ → ℕ → Type 0
 Put names nodes list line r = (r ≡ length (places_in names nodes (strings list))) × (take r line ≡ places_in names nodes (strings list))
 
 module _ (names : List (List ℕ)) (nodes list : List ℕ) where
-  pub turned_start : (line : List ℕ) → length (strings list) ≤ most_names → length line ≡ places_per_job → Turned names nodes list line 0 0
-  turned_start line l e = record { within = omega arith; room = omega arith; long = e; places = left_start names nodes (strings list) }
+  pub turned_start : (line : List ℕ) → length (strings list) ≤ most_names → length line ≡ places_per_job → Turned names nodes list list line 0
+  turned_start line l e = record { room = omega arith; long = e; places = left_start names nodes (strings list) }
 
-  module _ (line : List ℕ) (i n : ℕ) (h : Turned names nodes list line i n) where
+  module _ (left line : List ℕ) (n : ℕ) (h : Turned names nodes list left line n) where
     -- no string is left
-    turned_last : strings (drop i list) ≡ [] → Put names nodes list line n
+    pub turned_last : strings left ≡ [] → Put names nodes list line n
     turned_last e =
         let q : places_in names nodes (strings list) ≡ take n line =
         h.places ∙ ap (places_left names nodes (take n line)) e ∙ left_none names nodes (take n line) in
         (sym (length-take-le n line (omega (arith, h.room, h.long))) ∙ ap length (sym q), sym q)
 
-    pub turned_end : length list ≤ i → Put names nodes list line n
-    unfolding strings
-    turned_end l = turned_last (ap strings (drop_of_length-le list l))
+    module _ (word rest : List ℕ) (s : Split left word rest) where
+      -- there is room for one place more
+      pub turned_room : n < places_per_job
+      turned_room = omega (arith, h.room, ap length s.first)
 
-    module _ (e : ℕ) (at : e ≡ i + word_length (drop i list)) where
-      pub turned_open : length list ≤ e → Put names nodes list line n
-      turned_open l = turned_last (at_nothing list i e h.within at l)
+      -- "an unknown name drops that whole list to default"
+      pub turned_unknown : none ≡ found_in names nodes word → Put names nodes list line 0
+      turned_unknown u =
+          let q : places_in names nodes (strings list) ≡ [] =
+          h.places ∙ ap (places_left names nodes (take n line)) s.first ∙ left_unknown names nodes word (strings rest) (take n line) u in
+          (sym (ap length q), sym q)
 
-      module _ (l : e < length list) where
-        abbrev word : List ℕ
-        word = take (e - i) (drop i list)
-
-        next : strings (drop i list) ≡ word ∷ strings (drop (e + 1) list)
-        next = at_strings list i e h.within at l
-
-        -- there is room for one place more
-        pub turned_room : n < places_per_job
-        turned_room = omega (arith, h.room, ap length next)
-
-        -- "an unknown name drops that whole list to default"
-        pub turned_unknown : none ≡ found_in names nodes word → Put names nodes list line 0
-        turned_unknown u =
-            let q : places_in names nodes (strings list) ≡ [] =
-            h.places ∙ ap (places_left names nodes (take n line)) next ∙ left_unknown names nodes word (strings (drop (e + 1) list)) (take n line) u in
-            (sym (ap length q), sym q)
-
-        pub turned_next : (p : ℕ) → some p ≡ found_in names nodes word → Turned names nodes list (set line n p) (e + 1) (n + 1)
-        turned_next p k = record {
-          within = omega arith;
-          room = omega (arith, h.room, ap length next);
-          long = length-set line n p ∙ h.long;
-          places =
-              h.places ∙ ap (places_left names nodes (take n line)) next
-              ∙ left_known names nodes word (strings (drop (e + 1) list)) (take n line) p k
-              ∙ ap (λ (d : List ℕ). places_left names nodes d (strings (drop (e + 1) list)))
-              (sym (take-suc-set line n p (omega (arith, turned_room, h.long))) ∙ ap (λ (m : ℕ). take m (set line n p)) (sym (add-one n)));
-        }
+      pub turned_next : (p : ℕ) → some p ≡ found_in names nodes word → Turned names nodes list rest (set line n p) (n + 1)
+      turned_next p k = record {
+        room = omega (arith, h.room, ap length s.first);
+        long = length-set line n p ∙ h.long;
+        places =
+            h.places ∙ ap (places_left names nodes (take n line)) s.first ∙ left_known names nodes word (strings rest) (take n line) p k
+            ∙ ap (λ (d : List ℕ). places_left names nodes d (strings rest))
+            (sym (take-suc-set line n p (omega (arith, turned_room, h.long))) ∙ ap (λ (m : ℕ). take m (set line n p)) (sym (add-one n)));
+      }

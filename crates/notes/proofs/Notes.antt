@@ -1,5 +1,5 @@
 -- Laws on a whole note: its numbers, its tests, its lists and its names. Assumes nothing.
-use mathlib.Core.Path.{◌≡◌, sym, ap, ap₂, ◌∙◌}
+use mathlib.Core.Path.{◌≡◌, sym, ap, ap₂, subst, ◌∙◌}
 use mathlib.Core.Bool.{Bool, true, false, ◌&&◌}
 use mathlib.Core.List.{List, [], ◌++◌}
 use Prim.Native.Nat.{ℕ, suc, ◌+◌, ◌-◌, ◌*◌, ◌≤◌, ◌<◌}
@@ -10,13 +10,16 @@ use lib.Dec.{eqb, leb, ltb}
 use lib.ListN.{length, take, drop, get_or, length-append, length-drop, take-append-drop}
 use lib.Seq.{drop-cons, drop-drop, take-length}
 use borrow.Author.Tests.{eq-eqb, ne_eqb, le-leb, lt-leb, leb-true, eqb-true, ltb-true}
+use Rattle.std.specs.Prelude.{Option, Some}
+use Rattle.std.specs.Option.{option_eq}
 use Rattle.rules.specs.Journal.{part, number}
 use Rattle.rules.specs.Records.{from_bytes}
 use Rattle.rules.specs.Notes.{strings, size_of, list_ok, head_size, text_count, text_size, data_count, data_size, text_part, data_part, note_ok, all_names}
 use Rattle.rules.specs.Notes.{has_name, part_at, name_part, list_part}
 use Rattle.rules.proofs.Lists.{both_true}
-use Rattle.notes.specs.Steps.{name_count, word_length}
-use Rattle.notes.proofs.GoodLists.{count_test, good_list}
+use Rattle.notes.specs.Steps.{word_length, IsCount}
+use Rattle.notes.proofs.GoodLists.{good_list, count_is}
+use Rattle.notes.proofs.Words.{rest_is}
 use Rattle.notes.proofs.Starts.{string_length, strings_append}
 
 -- ---- a number of four bytes
@@ -45,19 +48,21 @@ unfolding note_ok
 note_off note b d l p q e =
     rw (le-leb head_size (length note) l, ne_eqb (length note) (head_size + text_size note + data_size note) (λ z. e (rw (p, q) z)))
 
-pub note_tested : (note : List ℕ) (b d t u a c : ℕ) → head_size ≤ length note → b ≡ text_size note → d ≡ data_size note → length note ≡ head_size + b + d
-    → t ≡ name_count (take (head_size + b - head_size) (drop head_size note))
-    → u ≡ name_count (take (head_size + b + d - (head_size + b)) (drop (head_size + b) note))
-    → a ≡ text_count note → c ≡ data_count note
-    → ((leb t 16 && eqb t a) && (leb u 16 && eqb u c)) ≡ note_ok note
+pub note_tested : (note : List ℕ) (b d a c : ℕ) (t u : Option ℕ) → head_size ≤ length note → b ≡ text_size note → d ≡ data_size note
+    → length note ≡ head_size + b + d → a ≡ text_count note → c ≡ data_count note
+    → IsCount (take (head_size + b - head_size) (drop head_size note)) t
+    → IsCount (take (head_size + b + d - (head_size + b)) (drop (head_size + b) note)) u
+    → (option_eq eqb t (Some a) && option_eq eqb u (Some c)) ≡ note_ok note
 unfolding note_ok part
-note_tested note b d t u a c l p q e f g h k =
-    let f' : t ≡ name_count (text_part note) = f ∙ ap (λ (m : ℕ). name_count (take m (drop head_size note))) (add-sub_cancel_left head_size b ∙ p) in
-    let g' : u ≡ name_count (data_part note) =
-    g ∙ ap₂ (λ (m n : ℕ). name_count (take m (drop (head_size + n) note))) (add-sub_cancel_left (head_size + b) d ∙ q) p in
+note_tested note b d a c t u l p q e h k f g =
+    let ts : take (head_size + b - head_size) (drop head_size note) ≡ text_part note =
+    ap (λ (m : ℕ). take m (drop head_size note)) (add-sub_cancel_left head_size b ∙ p) in
+    let ds : take (head_size + b + d - (head_size + b)) (drop (head_size + b) note) ≡ data_part note =
+    ap₂ (λ (m n : ℕ). take m (drop (head_size + n) note)) (add-sub_cancel_left (head_size + b) d ∙ q) p in
     let e' : length note ≡ head_size + text_size note + data_size note = e ∙ ap₂ (λ (m n : ℕ). head_size + m + n) p q in
-    rw (le-leb head_size (length note) l, eq-eqb (length note) (head_size + text_size note + data_size note) e', f', g', h, k)
-    (ap₂ (λ (x y : Bool). x && y) (count_test (text_part note) (text_count note)) (count_test (data_part note) (data_count note)))
+    rw (le-leb head_size (length note) l, eq-eqb (length note) (head_size + text_size note + data_size note) e', h, k)
+    (ap₂ (λ (x y : Bool). x && y) (count_is (text_part note) (text_count note) t (subst (λ (xs : List ℕ). IsCount xs t) ts f))
+    (count_is (data_part note) (data_count note) u (subst (λ (xs : List ℕ). IsCount xs u) ds g)))
 
 -- ---- what a good note is
 
@@ -112,9 +117,6 @@ note_strings note e =
 
 -- ---- parts of a note as the code takes them
 
-pub rest_is : (note : List ℕ) (at : ℕ) → take (length note - at) (drop at note) ≡ drop at note
-rest_is note at = ap (λ (m : ℕ). take m (drop at note)) (sym (length-drop at note)) ∙ take-length (drop at note)
-
 module _ (note : List ℕ) (which b : ℕ) (p : b ≡ text_size note) where
   pub text_list : which ≡ 0 → take (head_size + b - head_size) (drop head_size note) ≡ list_part note which
   unfolding list_part part
@@ -155,19 +157,23 @@ module _ (note : List ℕ) (k : ℕ) where
       let h = both_true {a = note_ok note} e in
       (h.0, omega (arith, ltb-true k (length (all_names note)) h.1, ap length (note_strings note h.0)))
 
-  -- the bytes from the k-th string's start up to the first zero are the k-th name
-  module _ (e : has_name note k ≡ true) (rest : List ℕ) (start end : ℕ) (z : rest ≡ drop head_size note)
-      (p : start ≡ size_of (take k (strings rest))) (q : end ≡ start + word_length (drop start rest)) where
-    ends : end - start ≡ length (get_or (strings rest) k [])
-    ends =
-        let l : k < length (strings rest) = omega (arith, (name_there e).1, ap (λ (l : List ℕ). length (strings l)) z) in
-        let n : word_length (drop start rest) ≡ length (get_or (strings rest) k []) = ap (λ (m : ℕ). word_length (drop m rest)) p ∙ string_length rest k l in
-        omega arith
-
-    pub name_found : part_at (head_size + start) (end - start) ≡ name_part note k
-    unfolding name_part
-    name_found =
-        rw e
-        (ap₂ (λ (s m : ℕ). part_at (head_size + s) m) p ends
-        ∙ ap (λ (ws : List (List ℕ)). part_at (head_size + size_of (take k ws)) (length (get_or ws k [])))
-        (ap strings z ∙ note_strings note (name_there e).0))
+  -- the string that the k-th string's bytes begin with is the k-th name
+  pub name_found : has_name note k ≡ true → (rest names : List ℕ) (n : ℕ) → rest ≡ drop head_size note → names ≡ drop (size_of (take k (strings rest))) rest
+      → size_of (take k (strings rest)) ≤ length rest → n ≡ word_length names → part_at (length note - length names) n ≡ name_part note k
+  unfolding name_part
+  name_found e rest names n z p w q =
+      let there = name_there e in
+      let l : k < length (strings rest) = omega (arith, there.1, ap (λ (l : List ℕ). length (strings l)) z) in
+      let start : length note - length names ≡ head_size + size_of (take k (strings rest)) =
+      omega (
+        arith,
+        w,
+        ap length z,
+        length-drop head_size note,
+        ap length p,
+        length-drop (size_of (take k (strings rest))) rest,
+        (good_note note there.0).long,
+      ) in
+      rw e
+      (ap₂ part_at start (q ∙ ap word_length p ∙ string_length rest k l)
+      ∙ ap (λ (ws : List (List ℕ)). part_at (head_size + size_of (take k ws)) (length (get_or ws k []))) (ap strings z ∙ note_strings note there.0))

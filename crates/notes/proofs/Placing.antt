@@ -1,27 +1,30 @@
 -- Laws on bytes put into the output. Assumes nothing.
 use mathlib.Core.Path.{◌≡◌, refl, sym, ap, ap₂, ◌∙◌}
-use mathlib.Core.List.{List, [], ◌++◌, append_assoc, append-nil}
-use Prim.Native.Nat.{ℕ, ◌+◌, ◌-◌, ◌≤◌}
+use mathlib.Core.List.{List, [], ◌∷◌, ◌++◌, append_assoc}
+use Prim.Native.Nat.{ℕ, ◌+◌, ◌-◌, ◌/◌, ◌%◌, ◌≤◌}
 use native.Mathlib.Omega.{arith}
-use lib.ListN.{length, take, drop, length-append, length-drop, drop_of_length-le}
+use borrow.Rule.Slice.PartMut.{put_mid}
+use Rattle.std.proofs.lemmas.Slice.{put_mid-paste}
+use native.Mathlib.Nat.{add-sub_cancel_left}
+use lib.ListN.{length, take, drop, length-append, length-drop}
 use lib.Seq.{sets, sets-eq, take_at, drop-append-add, drop-drop, take-length}
 use Rattle.rules.specs.Notes.{head_size, head_of}
 use Rattle.rules.specs.Records.{bytes_of}
-use Rattle.notes.proofs.Notes.{rest_is}
 
--- a copy into the rest of a table from a place on
-pub copied : (table xs rest : List ℕ) (at : ℕ) → at + length xs ≤ length table
-    → rest ≡ take (length xs) xs ++ drop (length xs) (take (length table - at) (drop at table))
-    → take at table ++ (rest ++ drop (length table - at) (drop at table)) ≡ sets table at xs
-copied table xs rest at l e =
-    let none : drop (length table - at) (drop at table) ≡ [] =
-    drop_of_length-le (drop at table) {i = length table - at} (omega (arith, length-drop at table)) in
-    let full : rest ≡ xs ++ drop (at + length xs) table =
-    e ∙ ap₂ (λ (a b : List ℕ). a ++ drop (length xs) b) (take-length xs) (rest_is table at) ∙ ap (λ (b : List ℕ). xs ++ b) (drop-drop (length xs) at table) in
-    ap₂ (λ (a b : List ℕ). take at table ++ (a ++ b)) full none
-    ∙ ap (λ (a : List ℕ). take at table ++ a) (append-nil (xs ++ drop (at + length xs) table))
-    ∙ sym (append_assoc (take at table) xs (drop (at + length xs) table))
+-- bytes that are copied to a place
+pub copied : (table xs new : List ℕ) (at : ℕ) → at + length xs ≤ length table → new ≡ xs → put_mid at (at + length xs - at) table new ≡ sets table at xs
+copied table xs new at l e =
+    put_mid-paste at (at + length xs - at) table new xs (length xs) e (sym (add-sub_cancel_left at (length xs))) refl
+    ∙ ap (λ (ys : List ℕ). take at table ++ ys ++ drop (at + length xs) table) (take-length xs)
     ∙ sym (sets-eq xs table at l)
+
+-- the four bytes of a number
+pub first_four : (n : ℕ) → n % 256 ∷ n / 256 % 256 ∷ n / 65536 % 256 ∷ n / 16777216 % 256 ∷ [] ≡ bytes_of 4 n
+unfolding bytes_of
+first_four n =
+    let two : n / 65536 ≡ n / 256 / 256 = omega arith in
+    let three : n / 16777216 ≡ n / 256 / 256 / 256 = omega arith in
+    rw (two, three)
 
 -- what is put right behind a beginning makes it longer
 set_next : (o p xs : List ℕ) (at : ℕ) → length p ≡ at → at + length xs ≤ length o → sets (p ++ drop at o) at xs ≡ (p ++ xs) ++ drop (at + length xs) o

@@ -2,44 +2,53 @@
 use mathlib.Core.Path.{◌≡◌, refl, sym, ap, ◌∙◌}
 use mathlib.Core.Bool.{Bool, true, false}
 use mathlib.Core.List.{List, [], ◌∷◌, ◌++◌}
-use Prim.Native.Nat.{ℕ, zero, suc, ◌+◌, ◌-◌, ◌≤◌, ◌<◌}
+use Prim.Native.Nat.{ℕ, zero, suc, ◌+◌, ◌≤◌, ◌<◌}
 use native.Mathlib.Omega.{arith}
 use lib.Dec.{ltb}
 use lib.ListN.{length, take, drop, get_or}
 use lib.Seq.{drop-drop, length-take-le, drop-cons}
 use borrow.Author.Tests.{ltb-true, ltb-false}
 use Rattle.rules.specs.Notes.{strings, size_of, in_front}
-use Rattle.notes.specs.Steps.{word_length}
-use Rattle.notes.proofs.Words.{strings_found, strings_none, at_nothing, at_strings, word_length_lem}
+use Rattle.notes.specs.Steps.{word_length, Split}
+use Rattle.notes.proofs.Words.{strings_found, strings_none}
 
--- ---- the loop that passes strings: the string at i ends at e
+-- ---- the loop that passes k strings: left is the rest of the bytes, and m strings are still to be passed
 
-module _ (bytes : List ℕ) (i e : ℕ) (l : i ≤ length bytes) (at : e ≡ i + word_length (drop i bytes)) where
+pub record Passed (bytes left : List ℕ) (k m : ℕ) : Type 0 where
+  pub rest : drop (size_of (take k (strings bytes))) bytes ≡ drop (size_of (take m (strings left))) left
+  pub size : size_of (take k (strings bytes)) + length left ≡ length bytes + size_of (take m (strings left))
+
+pub passed_start : (bytes : List ℕ) (k m : ℕ) → m ≡ k → Passed bytes bytes k m
+passed_start bytes k m e = rw e (record { rest = refl; size = omega arith })
+
+module _ (bytes left : List ℕ) (k m : ℕ) (h : Passed bytes left k m) where
+  passed_end : size_of (take m (strings left)) ≡ 0 → (left ≡ drop (size_of (take k (strings bytes))) bytes) × (size_of (take k (strings bytes)) ≤ length bytes)
+  passed_end z = (sym (h.rest ∙ ap (λ (s : ℕ). drop s left) z), omega (arith, h.size, z))
+
   -- no string is left
-  pub start_last : (left : ℕ) → length bytes ≤ e → i + size_of (take left (strings (drop i bytes))) ≡ i
+  pub passed_last : strings left ≡ [] → (left ≡ drop (size_of (take k (strings bytes))) bytes) × (size_of (take k (strings bytes)) ≤ length bytes)
   unfolding size_of
-  start_last left k = rw (at_nothing bytes i e l at k) (none left)
+  passed_last e = passed_end (rw e (none m))
     where
-      none : (m : ℕ) → i + size_of (take m []) ≡ i
-      none zero = omega arith
-      none (suc m) = omega arith
+      none : (m : ℕ) → size_of (take m []) ≡ 0
+      none zero = refl
+      none (suc m) = refl
+
+  -- all are passed
+  pub passed_all : m ≡ 0 → (left ≡ drop (size_of (take k (strings bytes))) bytes) × (size_of (take k (strings bytes)) ≤ length bytes)
+  unfolding size_of
+  passed_all e = passed_end (rw e refl)
 
   -- a string and its zero are passed
-  pub start_next : (left : ℕ) → e < length bytes → 0 < left
-      → i + size_of (take left (strings (drop i bytes))) ≡ e + 1 + size_of (take (left - 1) (strings (drop (e + 1) bytes)))
+  pub passed_next : (word rest : List ℕ) (p : ℕ) → m ≡ suc p → Split left word rest → Passed bytes rest k p
   unfolding size_of
-  start_next zero k m = absurd (omega arith)
-  start_next (suc left) k m =
-      let q : suc left - 1 ≡ left = omega arith in
-      rw (at_strings bytes i e l at k, word_length_lem bytes i e l at k, q) (omega arith)
-
-pub start_none : (bytes : List ℕ) (k : ℕ) → size_of (take k (strings bytes)) ≡ 0 + size_of (take k (strings (drop 0 bytes)))
-start_none bytes k = omega arith
-
-pub start_end : (bytes : List ℕ) (i left : ℕ) → left ≤ 0 → i + size_of (take left (strings (drop i bytes))) ≡ i
-unfolding size_of
-start_end bytes i zero l = omega arith
-start_end bytes i (suc left) l = absurd (omega arith)
+  passed_next word rest p e s =
+      let n = size_of (take p (strings rest)) in
+      let q : size_of (take m (strings left)) ≡ suc (length word) + n = rw (e, s.first) refl in
+      record {
+        rest = h.rest ∙ ap (λ (l : ℕ). drop l left) q ∙ sym (drop-drop n (suc (length word)) left) ∙ ap (drop n) (sym s.behind);
+        size = omega (arith, h.size, q, s.size);
+      }
 
 -- ---- the k-th string and where it starts
 

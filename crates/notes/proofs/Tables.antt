@@ -1,17 +1,15 @@
 -- Laws on the table of the nodes' names. Assumes nothing.
-use mathlib.Core.Path.{◌≡◌}
+use mathlib.Core.Path.{◌≡◌, refl, sym, ◌∙◌}
 use mathlib.Core.Bool.{Bool, true, false, ◌&&◌, and-false, and-true}
-use mathlib.Core.List.{List, ◌∷◌}
-use Prim.Native.Nat.{ℕ, suc, ◌+◌, ◌-◌, ◌≤◌, ◌<◌}
+use mathlib.Core.List.{List, [], ◌∷◌}
+use Prim.Native.Nat.{ℕ, suc, ◌+◌, ◌≤◌}
 use native.Mathlib.Nat.{zero-add}
 use native.Mathlib.Omega.{arith}
 use lib.Dec.{eqb}
-use lib.ListN.{length, take, drop, length-drop, drop_of_length-le}
-use borrow.Author.Tests.{ne_eqb}
-use Rattle.rules.specs.Basics.{all, same}
+use lib.ListN.{length}
+use Rattle.rules.specs.Basics.{all, any, same}
 use Rattle.rules.specs.Notes.{strings, size_of, name_ok, table_ok, first_match}
-use Rattle.notes.specs.Steps.{word_length}
-use Rattle.notes.proofs.Words.{at_nothing, at_strings, at_length}
+use Rattle.notes.specs.Steps.{Split}
 use Rattle.notes.proofs.Counts.{eqb_same}
 
 -- n names before, the rest xs of the table to come
@@ -22,60 +20,55 @@ pub rest_start : (nodes : ℕ) (xs : List ℕ) → table_ok nodes xs ≡ rest_ok
 unfolding table_ok rest_ok
 rest_start nodes xs = rw (zero-add (length (strings xs)))
 
-pub rest_end : (nodes n i : ℕ) (xs : List ℕ) → length xs ≤ i → rest_ok nodes n (drop i xs) ≡ eqb n nodes
-unfolding rest_ok strings size_of all
-rest_end nodes n i xs l =
-    let q : n + 0 ≡ n = omega arith in
-    rw (drop_of_length-le xs l, q) (and-true (eqb n nodes))
+module _ (nodes n : ℕ) (left : List ℕ) where
+  -- no string is left
+  pub rest_last : (b : Bool) → b ≡ eqb (length left) 0 → strings left ≡ [] → (b && eqb n nodes) ≡ rest_ok nodes n left
+  unfolding rest_ok size_of all
+  rest_last b p e =
+      let q : n + 0 ≡ n = omega arith in
+      rw (p, e, q, eqb_same (length left) 0 0 (length left) (λ z. sym z) (λ z. sym z)) (sym (and-true (eqb 0 (length left) && eqb n nodes)))
 
-pub match_start : (w xs : List ℕ) → first_match w (strings xs) ≡ 0 + first_match w (strings (drop 0 xs))
-match_start w xs = omega arith
-
-pub match_end : (w : List ℕ) (n i : ℕ) (xs : List ℕ) → length xs ≤ i → n + first_match w (strings (drop i xs)) ≡ n
-unfolding strings first_match
-match_end w n i xs l = rw (drop_of_length-le xs l) (omega arith)
-
--- the string at i ends at e
-module _ (table : List ℕ) (i e : ℕ) (l : i ≤ length table) (at : e ≡ i + word_length (drop i table)) (n : ℕ) where
-  pub rest_none : (nodes : ℕ) → i < length table → length table ≤ e → rest_ok nodes n (drop i table) ≡ false
-  unfolding rest_ok size_of
-  rest_none nodes m k =
-      rw (at_nothing table i e l at k, ne_eqb 0 (length (drop i table)) (λ q. omega (arith, length-drop i table)))
-
-  pub match_none : (w : List ℕ) → length table ≤ e → n + first_match w (strings (drop i table)) ≡ n
-  unfolding first_match
-  match_none w k = rw (at_nothing table i e l at k) (omega arith)
-
-  module _ (k : e < length table) where
-    pub rest_bad : (nodes : ℕ) → name_ok (take (e - i) (drop i table)) false ≡ false → rest_ok nodes n (drop i table) ≡ false
+  -- the first string is a name or not
+  module _ (word rest : List ℕ) (s : Split left word rest) where
+    pub rest_bad : name_ok word false ≡ false → rest_ok nodes n left ≡ false
     unfolding rest_ok all
-    rest_bad nodes f =
-        rw (at_strings table i e l at k, f)
-        (and-false
-        (eqb (size_of (take (e - i) (drop i table) ∷ strings (drop (e + 1) table))) (length (drop i table))
-        && eqb (n + suc (length (strings (drop (e + 1) table)))) nodes))
+    rest_bad f =
+        rw (s.first, f) (and-false (eqb (size_of (word ∷ strings rest)) (length left) && eqb (n + suc (length (strings rest))) nodes))
 
-    pub rest_good : (nodes : ℕ) → name_ok (take (e - i) (drop i table)) false ≡ true → rest_ok nodes n (drop i table) ≡ rest_ok nodes (n + 1)
-        (drop (e + 1) table)
+    pub rest_good : name_ok word false ≡ true → rest_ok nodes n left ≡ rest_ok nodes (n + 1) rest
     unfolding rest_ok all size_of
-    rest_good nodes t =
-        let w = take (e - i) (drop i table) in
-        let ws = strings (drop (e + 1) table) in
+    rest_good t =
+        let ws = strings rest in
         let z : n + suc (length ws) ≡ n + 1 + length ws = omega arith in
         rw (
-          at_strings table i e l at k,
-          at_length table i e l at k,
+          s.first,
+          s.size,
           t,
-          eqb_same (suc (length w) + size_of ws) (suc (length w) + length (drop (e + 1) table)) (size_of ws) (length (drop (e + 1) table))
-              (λ q. omega arith) (λ q. omega arith),
+          eqb_same (suc (length word) + size_of ws) (suc (length word) + length rest) (size_of ws) (length rest) (λ q. omega arith) (λ q. omega arith),
           z,
         )
 
-    pub match_here : (w : List ℕ) → same w (take (e - i) (drop i table)) ≡ true → n + first_match w (strings (drop i table)) ≡ n
-    unfolding first_match
-    match_here w t = rw (at_strings table i e l at k, t) (omega arith)
+-- ---- the first match: n names are another, and left is the rest of the table
 
-    pub match_later : (w : List ℕ) → same w (take (e - i) (drop i table)) ≡ false
-        → n + first_match w (strings (drop i table)) ≡ n + 1 + first_match w (strings (drop (e + 1) table))
-    unfolding first_match
-    match_later w f = rw (at_strings table i e l at k, f) (omega arith)
+pub record Looked (table left w : List ℕ) (n : ℕ) : Type 0 where
+  pub room : n + length left ≤ length table
+  pub some : any (same w) (strings table) ≡ any (same w) (strings left)
+  pub number : first_match w (strings table) ≡ n + first_match w (strings left)
+
+module _ (table left w : List ℕ) (n : ℕ) (h : Looked table left w n) where
+  pub match_none : strings left ≡ [] → any (same w) (strings table) ≡ false
+  unfolding any
+  match_none e = h.some ∙ rw e refl
+
+  module _ (name rest : List ℕ) (s : Split left name rest) where
+    pub match_here : same w name ≡ true → (any (same w) (strings table) ≡ true) × (n ≡ first_match w (strings table))
+    unfolding any first_match
+    match_here t =
+        let here : first_match w (strings left) ≡ 0 = rw (s.first, t) refl in
+        (h.some ∙ rw (s.first, t) refl, omega (arith, h.number, here))
+
+    pub match_later : same w name ≡ false → Looked table rest w (n + 1)
+    unfolding any first_match
+    match_later f =
+        let later : first_match w (strings left) ≡ suc (first_match w (strings rest)) = rw (s.first, f) refl in
+        record { room = omega (arith, h.room, s.size); some = h.some ∙ rw (s.first, f) refl; number = omega (arith, h.number, later) }

@@ -1,11 +1,10 @@
 -- What the tests of `note_places` come to, test by test. Assumes nothing.
-use mathlib.Core.Path.{◌≡◌, ap}
+use mathlib.Core.Path.{◌≡◌}
 use mathlib.Core.Bool.{Bool, true, false, cond}
 use mathlib.Core.List.{List}
-use Prim.Native.Nat.{ℕ, ◌≤◌}
-use native.Mathlib.Omega.{arith}
+use Prim.Native.Nat.{ℕ}
 use lib.Dec.{eqb}
-use lib.ListN.{length, take, length-take}
+use lib.ListN.{length}
 use Rattle.rules.specs.Maps.{map_bytes, nodes_in, good_map}
 use Rattle.rules.specs.Decisions.{refuse, wrote, written}
 use Rattle.rules.specs.Calls.{is_job, mapped_tables_ok}
@@ -32,10 +31,6 @@ module _ (names : List (List ℕ)) (nodes note : List ℕ) (which : ℕ) (out : 
   pub note_turned : note_ok note ≡ true → written out (places_in names nodes (strings (list_part note which))) ≡ note_tests names nodes note which out
   unfolding note_tests
   note_turned e = rw e
-
--- a line that gives its first len bytes has them
-pub long_enough : (len : ℕ) (line places : List ℕ) → len ≡ length places → take len line ≡ places → len ≤ length line
-long_enough len line places e t = omega (arith, length-take len line, ap length t)
 
 -- ---- from 1 on
 

@@ -1,49 +1,43 @@
 -- Laws on the bytes up to the first zero, and on equal lists of bytes. Assumes nothing.
 use mathlib.Core.Path.{◌≡◌, refl, sym, ap, ap₂, ◌∙◌}
-use mathlib.Core.Bool.{true, false, and-false}
+use mathlib.Core.Bool.{Bool, true, false, cond, ◌&&◌}
 use mathlib.Core.List.{List, [], ◌∷◌}
 use Prim.Native.Nat.{ℕ, zero, suc, ◌+◌, ◌-◌, ◌≤◌, ◌<◌}
-use native.Mathlib.Numerals.{add-one}
 use native.Mathlib.Omega.{arith}
-use lib.Dec.{eqb}
-use lib.ListN.{length, take, drop, get_or, length-drop, drop_of_length-le}
-use lib.Seq.{drop-cons, drop-drop, length-take-le}
-use borrow.Author.Tests.{eq-eqb, ne_eqb}
+use lib.Dec.{eqb, ltb}
+use lib.Pointwise.{pointwise}
+use lib.ListN.{length, take, drop, length-drop}
+use lib.Seq.{length-take-le, take-length}
+use borrow.Author.Tests.{ne_eqb, ltb-false}
+use Rattle.std.specs.Prelude.{Some, None}
+use Rattle.std.specs.List.{position_or_len}
+use Rattle.std.specs.Option.{unwrap_or}
 use Rattle.rules.specs.Basics.{same}
 use Rattle.rules.specs.Notes.{strings, in_front}
-use Rattle.notes.specs.Steps.{word_length}
+use Rattle.notes.specs.Steps.{word_length, Split}
 
 -- ---- the first zero
 
-zero_first : (x : ℕ) (xs : List ℕ) → x ≡ 0 → word_length (x ∷ xs) ≡ 0
+pub word_within : (xs : List ℕ) → word_length xs ≤ length xs
 unfolding word_length
-zero_first zero xs e = refl
-zero_first (suc x) xs e = absurd (omega arith)
+word_within [] = omega arith
+word_within (zero ∷ xs) = omega arith
+word_within (suc x ∷ xs) = omega (arith, word_within xs)
 
-other_first : (x : ℕ) (xs : List ℕ) → (x ≡ 0 → ⊥) → word_length (x ∷ xs) ≡ suc (word_length xs)
+first_zero : (xs : List ℕ) → position_or_len (λ x. eqb x 0) xs ≡ word_length xs
 unfolding word_length
-other_first zero xs e = absurd (e refl)
-other_first (suc x) xs e = refl
+first_zero [] = refl
+first_zero (zero ∷ xs) = refl
+first_zero (suc x ∷ xs) = rw (ne_eqb (suc x) 0 (λ e. omega arith)) (omega (arith, first_zero xs))
 
--- a zero at i ends the search
-pub zero_here : (xs : List ℕ) (i : ℕ) → i < length xs → get_or xs i 0 ≡ 0 → i + word_length (drop i xs) ≡ i
-zero_here xs i l e =
-    let q : word_length (drop i xs) ≡ 0 = ap word_length (drop-cons xs i 0 l) ∙ zero_first (get_or xs i 0) (drop (suc i) xs) e in
-    omega arith
-
--- another byte at i sends it on
-pub zero_later : (xs : List ℕ) (i : ℕ) → i < length xs → (get_or xs i 0 ≡ 0 → ⊥) → i + word_length (drop i xs) ≡ i + 1 + word_length (drop (i + 1) xs)
-zero_later xs i l e =
-    let q : word_length (drop i xs) ≡ suc (word_length (drop (i + 1) xs)) =
-    ap word_length (drop-cons xs i 0 l) ∙ other_first (get_or xs i 0) (drop (suc i) xs) e ∙ ap (λ (k : ℕ). suc (word_length (drop k xs))) (sym (add-one i)) in
-    omega arith
-
--- the end ends it
-pub zero_nowhere : (xs : List ℕ) (i : ℕ) → length xs ≤ i → i + word_length (drop i xs) ≡ i
-unfolding word_length
-zero_nowhere xs i l =
-    let q : word_length (drop i xs) ≡ 0 = ap word_length (drop_of_length-le xs l) in
-    omega arith
+-- the first zero as `position` finds it, else the end
+pub zero_or_end : (xs : List ℕ) → let at = position_or_len (λ x. eqb x 0) xs in
+    unwrap_or (cond (ltb at (length xs)) (Some at) None) (length xs) ≡ word_length xs
+zero_or_end xs = rw (first_zero xs) (by (ltb (word_length xs) (length xs)) refl)
+  where
+    by : (t : Bool) → ltb (word_length xs) (length xs) ≡ t → unwrap_or (cond t (Some (word_length xs)) None) (length xs) ≡ word_length xs
+    by true e = refl
+    by false e = omega (arith, word_within xs, ltb-false (word_length xs) (length xs) e)
 
 -- a string that ends in a zero comes first, those after its zero follow
 pub strings_found : (xs : List ℕ) → word_length xs < length xs → strings xs ≡ take (word_length xs) xs ∷ strings (drop (suc (word_length xs)) xs)
@@ -59,51 +53,34 @@ strings_none [] l = refl
 strings_none (zero ∷ xs) l = absurd (omega arith)
 strings_none (suc x ∷ xs) l = ap (in_front (suc x)) (strings_none xs (omega arith))
 
--- ---- the string at a place: from i to e
-
-module _ (bytes : List ℕ) (i e : ℕ) (l : i ≤ length bytes) (at : e ≡ i + word_length (drop i bytes)) where
-  -- no zero from i on
-  pub at_nothing : length bytes ≤ e → strings (drop i bytes) ≡ []
-  at_nothing k = strings_none (drop i bytes) (simp length-drop (omega arith))
-
-  rest_is : drop (suc (word_length (drop i bytes))) (drop i bytes) ≡ drop (e + 1) bytes
-  rest_is =
-      let q : i + suc (word_length (drop i bytes)) ≡ e + 1 = omega arith in
-      drop-drop (suc (word_length (drop i bytes))) i bytes ∙ ap (λ (k : ℕ). drop k bytes) q
-
-  module _ (k : e < length bytes) where
-    -- the strings at i are the string and those past its zero
-    pub at_strings : strings (drop i bytes) ≡ take (e - i) (drop i bytes) ∷ strings (drop (e + 1) bytes)
-    at_strings =
-        let n : word_length (drop i bytes) ≡ e - i = omega arith in
-        strings_found (drop i bytes) (simp length-drop (omega arith))
-        ∙ ap₂ (λ (m : ℕ) (xs : List ℕ). take m (drop i bytes) ∷ strings xs) n rest_is
-
-    pub word_length_lem : length (take (e - i) (drop i bytes)) ≡ e - i
-    word_length_lem = length-take-le (e - i) (drop i bytes) (simp length-drop (omega arith))
-
-    -- and the bytes at i are the string, its zero and the bytes past it
-    pub at_length : length (drop i bytes) ≡ suc (length (take (e - i) (drop i bytes))) + length (drop (e + 1) bytes)
-    at_length = rw word_length_lem (simp length-drop (omega arith))
-
 -- ---- equal bytes
 
-pub same_here : (xs ys : List ℕ) (i : ℕ) → i < length xs → i < length ys → get_or xs i 0 ≡ get_or ys i 0
-    → same (drop i xs) (drop i ys) ≡ same (drop (i + 1) xs) (drop (i + 1) ys)
+same_bytes : (xs ys : List ℕ) → pointwise eqb xs ys ≡ same xs ys
 unfolding same
-same_here xs ys i l m e = rw (add-one, drop-cons xs i 0 l, drop-cons ys i 0 m, eq-eqb (get_or xs i 0) (get_or ys i 0) e)
+same_bytes [] [] = refl
+same_bytes [] (y ∷ ys) = refl
+same_bytes (x ∷ xs) [] = refl
+same_bytes (x ∷ xs) (y ∷ ys) = ap (λ (b : Bool). eqb x y && b) (same_bytes xs ys)
 
-pub other_here : (xs ys : List ℕ) (i : ℕ) → i < length xs → i < length ys → (get_or xs i 0 ≡ get_or ys i 0 → ⊥) → same (drop i xs) (drop i ys) ≡ false
-unfolding same
-other_here xs ys i l m e = rw (drop-cons xs i 0 l, drop-cons ys i 0 m, ne_eqb (get_or xs i 0) (get_or ys i 0) e)
+-- what `==` says of two slices
+pub equal_is : (b : Bool) (xs ys zs : List ℕ) → b ≡ pointwise eqb xs ys → ys ≡ zs → b ≡ same xs zs
+equal_is b xs ys zs e f = e ∙ same_bytes xs ys ∙ ap (same xs) f
 
-pub same_end : (xs ys : List ℕ) (i : ℕ) → length xs ≤ i → length ys ≤ i → same (drop i xs) (drop i ys) ≡ true
-unfolding same
-same_end xs ys i l m = rw (drop_of_length-le xs l, drop_of_length-le ys m)
+-- ---- parts of bytes as the code takes them
 
-pub other_length : (xs ys : List ℕ) → (length xs ≡ length ys → ⊥) → same xs ys ≡ false
-unfolding same
-other_length [] [] e = absurd (e refl)
-other_length [] (y ∷ ys) e = refl
-other_length (x ∷ xs) [] e = refl
-other_length (x ∷ xs) (y ∷ ys) e = rw (other_length xs ys (λ q. e (ap suc q))) (and-false (eqb x y))
+pub rest_is : (xs : List ℕ) (at : ℕ) → take (length xs - at) (drop at xs) ≡ drop at xs
+rest_is xs at = ap (λ (m : ℕ). take m (drop at xs)) (sym (length-drop at xs)) ∙ take-length (drop at xs)
+
+-- a zero at e: the bytes before it are the first string
+pub split_at : (xs word rest : List ℕ) (e : ℕ) → e ≡ word_length xs → e ≤ length xs → (e ≡ length xs → ⊥) → word ≡ take e xs → rest ≡ drop (e + 1) xs
+    → Split xs word rest
+split_at xs word rest e p l n f g =
+    let m : length word ≡ e = ap length f ∙ length-take-le e xs l in
+    let s : suc (word_length xs) ≡ e + 1 = omega arith in
+    record {
+      first =
+          strings_found xs (omega arith) ∙ ap₂ (λ (a b : ℕ). take a xs ∷ strings (drop b xs)) (sym p) s
+          ∙ ap₂ (λ (w r : List ℕ). w ∷ strings r) (sym f) (sym g);
+      size = omega (arith, m, ap length g, length-drop (e + 1) xs);
+      behind = let q : e + 1 ≡ suc (length word) = omega arith in g ∙ ap (λ (k : ℕ). drop k xs) q;
+    }

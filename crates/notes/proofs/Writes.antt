@@ -4,8 +4,7 @@ use mathlib.Core.Bool.{true, false}
 use mathlib.Core.List.{List, ◌++◌}
 use Prim.Native.Nat.{ℕ, ◌+◌, ◌≤◌, ◌<◌}
 use native.Mathlib.Omega.{arith}
-use lib.ListN.{length, take, drop, length-append}
-use lib.Seq.{take-length}
+use lib.ListN.{length, drop, length-append}
 use borrow.Author.Tests.{le-leb, lt-leb}
 use Rattle.rules.specs.Decisions.{refuse, accept, wrote, written}
 use Rattle.rules.specs.Notes.{strings, list_ok, head_size, head_of, note_of, note_decision, write_note}
@@ -27,12 +26,9 @@ module _ (out bytes : List ℕ) where
   written_whole l = rw (le-leb (length bytes) (length out) l)
 
   -- they are copied there
-  pub written_copy : {size : ℕ} {src last : List ℕ} → length bytes ≤ length out → src ≡ bytes → size ≡ length src
-      → last ≡ take (length src) src ++ drop (length src) out → wrote (accept size) last ≡ written out bytes
-  written_copy {size} {src} {last} l e s c =
-      ap₂ (λ (k : ℕ) (t : List ℕ). wrote (accept k) t) s (c ∙ ap (λ (t : List ℕ). t ++ drop (length src) out) (take-length src))
-      ∙ ap (λ (t : List ℕ). wrote (accept (length t)) (t ++ drop (length t) out)) e
-      ∙ written_whole l
+  pub written_copy : {size : ℕ} {new : List ℕ} → size ≡ length bytes → size ≤ length out → new ≡ bytes
+      → wrote (accept size) (new ++ drop size out) ≡ written out bytes
+  written_copy e l s = ap₂ (λ (k : ℕ) (t : List ℕ). wrote (accept k) (t ++ drop k out)) e s ∙ written_whole (omega arith)
 
 -- ---- the note
 

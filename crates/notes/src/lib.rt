@@ -28,13 +28,10 @@ pub fn name_part(note: &[u8], k: usize) -> Part
     if !reader::has_name(note, k) {
         return Part { start: 0, len: 0 };
     }
-    let rest = &note[HEAD_BYTES..];
-    let start = list::start_of(rest, k);
-    let end = list::end_of(rest, start);
-    Part {
-        start: HEAD_BYTES + start,
-        len: end - start,
-    }
+    let names = list::strings_from(&note[HEAD_BYTES..], k);
+    let start = note.len() - names.len();
+    let len = list::end_of(names);
+    Part { start, len }
 }
 
 // The k-th name "is handed back as that part of the caller's own bytes, without its zero; an empty part if the note is bad or has no such
@@ -75,7 +72,7 @@ pub fn note_places(
     let map = turning::of_job(maps, job);
     let judged = judging::judge(nodes, map);
     match judged {
-        Judged::Good(_, _) => places::turn_note(nodes, map, names, note, which, out),
+        Judged::Good(_, _) => places::turn_note(map, names, note, which, out),
         Judged::Bad => Decision::Refuse(Refusal::BadMap),
     }
 }
@@ -84,14 +81,12 @@ pub fn note_places(
 pub fn write_note(text: &[u8], data: &[u8], out: &mut [u8]) -> Decision
     ensures { wrote (decision_of result) out.new ≡ write_note text.now «data».now out.old }
 {
-    let texts = list::count(text);
-    let datas = list::count(data);
-    if list::MOST_NAMES < texts {
+    let Some(texts) = list::count(text) else {
         return Decision::Refuse(Refusal::BadNote);
-    }
-    if list::MOST_NAMES < datas {
+    };
+    let Some(datas) = list::count(data) else {
         return Decision::Refuse(Refusal::BadNote);
-    }
+    };
     let size = HEAD_BYTES + text.len() + data.len();
     if out.len() < size {
         return Decision::Refuse(Refusal::OutputTooShort);

@@ -2,7 +2,8 @@
 
 ghost use Rattle.std.specs.Prelude.{◌≡◌, ◌≤◌};
 ghost use Rattle.rules.specs.Masks.{most_nodes};
-ghost use Rattle.rules.specs.Notes.{first_match, strings, table_ok};
+ghost use Rattle.rules.specs.Notes.{strings, table_ok};
+ghost use Rattle.notes.specs.Steps.{IsMatch};
 
 use super::list;
 
@@ -10,20 +11,16 @@ use super::list;
 fn names_ok(table: &[u8], nodes: usize) -> bool
     ensures { result ≡ table_ok nodes table.now }
 {
-    let mut i = 0;
+    let mut left = table;
     let mut n = 0;
-    while i < table.len() {
-        let end = list::end_of(table, i);
-        if table.len() <= end {
+    while let Some((name, rest)) = list::split_string(left) {
+        if !list::name_ok(name, false) {
             return false;
         }
-        if !list::name_ok(&table[i..end], false) {
-            return false;
-        }
-        i = end + 1;
+        left = rest;
         n += 1;
     }
-    n == nodes
+    left.is_empty() & (n == nodes)
 }
 
 // The same: a table that is too long is bad, whatever it holds.
@@ -37,22 +34,18 @@ pub fn table_ok(table: &[u8], nodes: usize) -> bool
     names_ok(table, nodes)
 }
 
-// "the first match counting": the number of the first name that is this one, else how many names there are.
-pub fn first_match(table: &[u8], word: &[u8]) -> usize
-    ensures { result ≡ first_match word.now (strings table.now) }
+// "the first match counting": the number of the first name that is this one, none if none is.
+pub fn first_match(table: &[u8], word: &[u8]) -> Option<usize>
+    ensures { IsMatch (strings table.now) word.now result }
 {
-    let mut i = 0;
+    let mut left = table;
     let mut n = 0;
-    while i < table.len() {
-        let end = list::end_of(table, i);
-        if table.len() <= end {
-            return n;
+    while let Some((name, rest)) = list::split_string(left) {
+        if word == name {
+            return Some(n);
         }
-        if list::same_bytes(word, &table[i..end]) {
-            return n;
-        }
-        i = end + 1;
+        left = rest;
         n += 1;
     }
-    n
+    None
 }

@@ -1,6 +1,6 @@
 // A note's list turned into places.
 
-ghost use Rattle.std.specs.Prelude.{◌≡◌, ◌≤◌, length, take};
+ghost use Rattle.std.specs.Prelude.{ℕ, ◌≡◌, ◌≤◌, length, take};
 ghost use Rattle.rules.specs.Answers.{decision_of};
 ghost use Rattle.rules.specs.Decisions.{wrote, written};
 ghost use Rattle.rules.specs.Maps.{nodes_in};
@@ -12,96 +12,64 @@ use super::{list, names, reader};
 use maps::turning;
 use rules::{CLOSING_PLACE, Decision, NO_NODE, PLACES_PER_JOB, Refusal, SysNode};
 
-// What a name stands for.
-#[derive(Clone, Copy)]
-pub enum Found {
-    Place(u8),
-    Unknown,
-}
-
-// "a place is the node's application number, a first match outside the map counting as an unknown name".
-fn place_of(nodes: usize, map: &[u8], table: &[u8], word: &[u8]) -> Found
-    requires { Tested nodes map.now table.now }
+// "a place is the node's application number, a first match outside the map counting as an unknown name": none for an unknown name.
+fn place_of(map: &[u8], table: &[u8], word: &[u8]) -> Option<u8>
+    requires { (n : ℕ) × Tested n map.now table.now }
     ensures { found_of result ≡ found_in (strings table.now) (nodes_in map.now) word.now }
 {
-    if list::same_bytes(word, b"ANY") {
-        return Found::Place(CLOSING_PLACE);
+    if word == b"ANY".as_slice() {
+        return Some(CLOSING_PLACE);
     }
-    let node = names::first_match(table, word);
-    if node == nodes {
-        return Found::Unknown;
-    }
+    let node = names::first_match(table, word)?;
     let number = node as u8;
     let place = turning::named(map, SysNode(number)).0;
     if place == NO_NODE {
-        return Found::Unknown;
+        return None;
     }
-    Found::Place(place)
+    Some(place)
 }
 
 // The places of a list put into a line: how many, 0 if a name is unknown.
-fn put_places(
-    nodes: usize,
-    map: &[u8],
-    table: &[u8],
-    list: &[u8],
-    line: &mut [u8; PLACES_PER_JOB],
-) -> usize
-    requires { Tested nodes map.now table.now × (length (strings list.now) ≤ most_names) × (length line.old ≡ places_per_job) }
+fn put_places(map: &[u8], table: &[u8], list: &[u8], line: &mut [u8; PLACES_PER_JOB]) -> usize
+    requires { ((n : ℕ) × Tested n map.now table.now) × (length (strings list.now) ≤ most_names) × (length line.old ≡ places_per_job) }
     ensures len { result ≡ length (places_in (strings table.now) (nodes_in map.now) (strings list.now)) }
     ensures places { take result line.new ≡ places_in (strings table.now) (nodes_in map.now) (strings list.now) }
 {
-    let mut i = 0;
+    let mut left = list;
     let mut n = 0;
-    while i < list.len() {
-        let end = list::end_of(list, i);
-        if list.len() <= end {
-            return n;
-        }
-        let found = place_of(nodes, map, table, &list[i..end]);
-        match found {
-            Found::Place(byte) => {
-                line[n] = byte;
-                i = end + 1;
-                n += 1;
-            }
-            Found::Unknown => {
-                return 0;
-            }
-        }
+    while let Some((word, rest)) = list::split_string(left) {
+        let Some(place) = place_of(map, table, word) else {
+            return 0;
+        };
+        line[n] = place;
+        left = rest;
+        n += 1;
     }
     n
 }
 
 // The places of a list of at most 16 names put at the start of the output, if they fit there.
-fn turn_list(nodes: usize, map: &[u8], table: &[u8], list: &[u8], out: &mut [u8]) -> Decision
-    requires { Tested nodes map.now table.now × (length (strings list.now) ≤ most_names) }
+fn turn_list(map: &[u8], table: &[u8], list: &[u8], out: &mut [u8]) -> Decision
+    requires { ((n : ℕ) × Tested n map.now table.now) × (length (strings list.now) ≤ most_names) }
     ensures { wrote (decision_of result) out.new ≡ written out.old (places_in (strings table.now) (nodes_in map.now) (strings list.now)) }
 {
     let mut line = [0u8; PLACES_PER_JOB];
-    let len = put_places(nodes, map, table, list, &mut line);
+    let len = put_places(map, table, list, &mut line);
     if out.len() < len {
         return Decision::Refuse(Refusal::OutputTooShort);
     }
-    let size = rules::copy(&line[..len], out);
-    Decision::Accept(size as u64)
+    out[..len].copy_from_slice(&line[..len]);
+    Decision::Accept(len as u64)
 }
 
 // The tests 16 and 11, and the places of a note's list.
-pub fn turn_note(
-    nodes: usize,
-    map: &[u8],
-    table: &[u8],
-    note: &[u8],
-    which: u64,
-    out: &mut [u8],
-) -> Decision
-    requires { Tested nodes map.now table.now }
+pub fn turn_note(map: &[u8], table: &[u8], note: &[u8], which: u64, out: &mut [u8]) -> Decision
+    requires { (n : ℕ) × Tested n map.now table.now }
     ensures { wrote (decision_of result) out.new ≡ note_tests (strings table.now) (nodes_in map.now) note.now which out.old }
 {
     if !reader::note_ok(note) {
         return Decision::Refuse(Refusal::BadNote);
     }
     let list = reader::list_of(note, which);
-    turn_list(nodes, map, table, list, out)
+    turn_list(map, table, list, out)
 }

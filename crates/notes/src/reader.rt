@@ -1,7 +1,7 @@
 // Reads a note: the four numbers, then the text list and the data list.
 
 ghost use Rattle.std.specs.Prelude.{true, ◌≡◌, ◌+◌, ◌≤◌, ◌<◌, length};
-ghost use Rattle.rules.specs.Journal.{byte_at, number};
+ghost use Rattle.rules.specs.Journal.{number};
 ghost use Rattle.rules.specs.Notes.{has_name, list_part, note_ok};
 
 use super::list;
@@ -9,26 +9,13 @@ use super::list;
 // The bytes of "the four counts".
 pub const HEAD_BYTES: usize = 16;
 
-// The byte at a place, as a count.
-fn byte_at(bytes: &[u8], at: usize) -> usize
-    requires { at < length bytes.now }
-    ensures byte { result ≡ byte_at bytes.now at }
-    ensures small { result < 256 }
-{
-    bytes[at] as usize
-}
-
 // The "little-endian 32-bit number" at a place.
 fn number(note: &[u8], at: usize) -> usize
     requires { at + 4 ≤ length note.now }
     ensures number { result ≡ number at 4 note.now }
     ensures small { result < 4294967296 }
 {
-    let a = byte_at(note, at);
-    let b = byte_at(note, at + 1);
-    let c = byte_at(note, at + 2);
-    let d = byte_at(note, at + 3);
-    a + b * 256 + c * 65536 + d * 16777216
+    u32::from_le_bytes([note[at], note[at + 1], note[at + 2], note[at + 3]]) as usize
 }
 
 // "counts and sizes must fit exactly": the note is good.
@@ -47,8 +34,7 @@ pub fn note_ok(note: &[u8]) -> bool
     let datas = list::count(&note[middle..end]);
     let text_count = number(note, 0);
     let data_count = number(note, 8);
-    ((texts <= list::MOST_NAMES) & (texts == text_count))
-        & ((datas <= list::MOST_NAMES) & (datas == data_count))
+    (texts == Some(text_count)) & (datas == Some(data_count))
 }
 
 // The note is good and has a k-th name.

@@ -12,10 +12,7 @@ fn put_number(out: &mut [u8], at: usize, n: usize)
     requires { at + 4 ≤ length out.old }
     ensures { out.new ≡ sets out.old at (bytes_of 4 n) }
 {
-    out[at] = (n % 256) as u8;
-    out[at + 1] = (n / 256 % 256) as u8;
-    out[at + 2] = (n / 256 / 256 % 256) as u8;
-    out[at + 3] = (n / 256 / 256 / 256 % 256) as u8;
+    put_bytes(&n.to_le_bytes()[..4], out, at);
 }
 
 // Puts bytes at a place.
@@ -23,7 +20,7 @@ fn put_bytes(src: &[u8], out: &mut [u8], at: usize)
     requires { at + length src.now ≤ length out.old }
     ensures { out.new ≡ sets out.old at src.now }
 {
-    rules::copy(src, &mut out[at..]);
+    out[at..at + src.len()].copy_from_slice(src);
 }
 
 // Puts the note of two lists, with their numbers of names, at the start of the output.

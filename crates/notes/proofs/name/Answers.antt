@@ -1,7 +1,6 @@
 -- `name` hands back the part that `name_part` says.
 -- Assumes nothing.
 use mathlib.Core.Path.{ap, ◌∙◌}
-use borrow.Author.Rules.{rules}
 use Rattle.rules.specs.Basics.{is_nil}
 use Rattle.notes.proofs.Handed.{lent_part, empty_part}
 use Rattle.notes.proofs.name.Goals as goal

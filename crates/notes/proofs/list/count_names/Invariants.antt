@@ -1,17 +1,11 @@
--- `count_names` meets its contract: the count of the list is the strings passed and the count of the rest; a string is judged where its zero is found.
+-- `count_names`: the strings passed are names, and the list is good if the rest of it is.
 -- Assumes nothing.
-use borrow.Author.Tests.{not-true, not-false}
-use lib.ListN.{length, drop, drop_of_length-le}
-use mathlib.Core.Path.{◌≡◌, sym, ap, ◌∙◌}
-use Prim.Native.Nat.{◌-◌, ◌≤◌}
-use native.Mathlib.Omega.{arith}
-use borrow.Author.Rules.{rules}
-use Rattle.notes.specs.Steps.{name_count}
-use Rattle.notes.proofs.Counts.{counted, counted_start, counted_end, at_none, at_full, at_bad, at_good}
+use Rattle.std.proofs.Common.{length}
+use Rattle.notes.proofs.Counts.{Counted}
 use Rattle.notes.proofs.list.count_names.Given as goal
 
-abbrev pub invariant-loop-i : goal.invariant-loop-i
-invariant-loop-i l = (l.i ≤ length l.list) × (l.n ≤ 16) × (name_count l.list ≡ counted l.n (drop l.i l.list))
+abbrev pub invariant-loop-word : goal.invariant-loop-word
+invariant-loop-word l = Counted l.list l.left l.n
 
-abbrev pub decreases-loop-i : goal.decreases-loop-i
-decreases-loop-i l = length l.list - l.i
+abbrev pub decreases-loop-word : goal.decreases-loop-word
+decreases-loop-word l = length l.left

@@ -1,24 +1,14 @@
--- `end_of` meets its contract: the bytes passed are none of them zero, so the first zero from `from` on is the first from the index on.
+-- `end_of` meets its contract: the first zero as `position` finds it.
 -- Assumes nothing.
-use mathlib.Core.Path.{◌≡◌, refl, sym, ◌∙◌}
-use Prim.Native.Nat.{◌+◌, ◌-◌, ◌≤◌}
-use lib.ListN.{length, drop}
-use borrow.Author.Rules.{rules}
-use Rattle.notes.specs.Steps.{word_length}
-use Rattle.notes.proofs.Words.{zero_here, zero_later, zero_nowhere}
+use Rattle.std.proofs.Common.{rules, tests, nat_eq, ap, length, ◌∙◌}
+use Rattle.std.specs.Option.{unwrap_or}
+use Rattle.std.proofs.lemmas.Iterator.{YieldsList-from_slice}
+use Rattle.std.proofs.lemmas.Iterator.Search.{position_from_yields_List}
+use Rattle.notes.proofs.Words.{zero_or_end}
 use Rattle.notes.proofs.list.end_of.Goals as goal
 
-pub returns-then-bytes-i-eq0 : goal.returns-then-bytes-i-eq0
-returns-then-bytes-i-eq0 c = let v = c.loop-i.invariant in record {
-  end = sym (v.1 ∙ zero_here _ _ c.loop-i-test.true c.if-bytes-i-eq0.true);
-  within = search rules;
-}
-
-pub loop-i-preserved : goal.loop-i-preserved
-loop-i-preserved c = let v = c.loop-i.invariant in (search rules, v.1 ∙ zero_later _ _ c.loop-i-test.true c.if-bytes-i-eq0.false)
-
-pub returns : goal.returns
-returns c = let v = c.loop-i.invariant in record {
-  end = sym (v.1 ∙ zero_nowhere _ _ c.loop-i-test.false);
-  within = search rules;
-}
+pub returns-clause-end : goal.returns-clause-end
+returns-clause-end c =
+    let found = position_from_yields_List (λ b. nat_eq b 0) _ _ c.position.result c.position.ensures.ran
+    (YieldsList-from_slice c.args.bytes.now cc) (λ x b q k. search (rules, tests)) in
+    c.unwrap_or.ensures ∙ ap (λ at. unwrap_or at (length c.args.bytes.now)) found ∙ zero_or_end c.args.bytes.now

@@ -1,8 +1,6 @@
 -- `table_ok` meets its contract: a good table is short.
 -- Assumes nothing.
 use mathlib.Core.Path.{sym}
-use native.Mathlib.Omega.{arith}
-use borrow.Author.Rules.{rules}
 use Rattle.notes.proofs.GoodLists.{long_table}
 use Rattle.notes.proofs.names.table_ok.Goals as goal
 

@@ -1,7 +1,6 @@
 -- `list_of` is the part of the note that the sizes say.
 -- Assumes nothing.
 use native.Mathlib.Omega.{arith}
-use borrow.Author.Rules.{rules}
 use Rattle.notes.proofs.Notes.{good_note, text_list, data_list}
 use Rattle.notes.proofs.reader.list_of.Goals as goal
 

@@ -1,9 +1,9 @@
 -- `note_ok` meets its contract: the tests are the definition's, the two lists by their counts.
 -- Assumes nothing.
-use mathlib.Core.Path.{sym}
+use mathlib.Core.Path.{sym, ap₂, ◌∙◌}
+use mathlib.Core.Bool.{◌&&◌}
 use native.Mathlib.Omega.{arith}
 use Rattle.notes.proofs.Notes.{note_short, note_off, note_tested}
-use borrow.Author.Rules.{rules}
 use Rattle.notes.proofs.reader.note_ok.Goals as goal
 
 pub returns-then-note-lt-HEAD_BYTES : goal.returns-then-note-lt-HEAD_BYTES
@@ -15,6 +15,7 @@ returns-then-note-end c = sym
     (λ z. omega (arith, c.if-note-end.true, z)))
 
 pub returns : goal.returns
-returns c = note_tested _ c.number-middle.result c.number.result c.count-texts.result c.count-datas.result c.number-text_count.result c.number-data_count.result
+returns c = ap₂ (λ x y. x && y) c.eq.ensures c.eq-2.ensures
+    ∙ note_tested _ c.number-middle.result c.number.result c.number-text_count.result c.number-data_count.result c.count-texts.result c.count-datas.result
     c.if-note-lt-HEAD_BYTES.false c.number-middle.ensures.number c.number.ensures.number c.if-note-end.false
-    c.count-texts.ensures c.count-datas.ensures c.number-text_count.ensures.number c.number-data_count.ensures.number
+    c.number-text_count.ensures.number c.number-data_count.ensures.number c.count-texts.ensures c.count-datas.ensures

@@ -1,8 +1,7 @@
--- `put_bytes` copies into the rest of the output.
+-- `put_bytes` copies to a place of the output.
 -- Assumes nothing.
-use borrow.Author.Rules.{rules}
 use Rattle.notes.proofs.Placing.{copied}
 use Rattle.notes.proofs.writer.put_bytes.Goals as goal
 
 pub returns : goal.returns
-returns c = copied _ c.args.src.now _ _ c.requires c.copy.ensures.bytes
+returns c = copied _ _ _ _ c.requires c.copy_from_slice.ensures.after

@@ -1,7 +1,6 @@
 -- `put_note` meets its contract: six puts, each right behind the one before.
 -- Assumes nothing.
 use Rattle.notes.proofs.Placing.{six_puts}
-use borrow.Author.Rules.{rules}
 use Rattle.notes.proofs.writer.put_note.Goals as goal
 
 pub returns : goal.returns

@@ -1,12 +1,9 @@
--- `put_number` meets its contract: four stores.
+-- `put_number` meets its contract: the first four bytes of the number.
 -- Assumes nothing.
-use native.Mathlib.Numerals.{towards_suc}
-use native.Mathlib.Omega.{arith}
-use lib.ListN.{length-set}
-use borrow.Author.Rules.{rules}
-use Rattle.rules.specs.Records.{bytes_of}
+use Rattle.std.proofs.Common.{ap, take, ◌∙◌}
+use Rattle.std.proofs.lemmas.List.Edits.{sets}
+use Rattle.notes.proofs.Placing.{first_four}
 use Rattle.notes.proofs.writer.put_number.Goals as goal
 
 pub returns : goal.returns
-unfolding bytes_of
-returns c = simp towards_suc
+returns c = c.put_bytes.ensures ∙ ap (λ bytes. sets c.args.out.now c.args.at bytes) (ap (take 4) c.to_le_bytes.ensures ∙ first_four c.args.n)
