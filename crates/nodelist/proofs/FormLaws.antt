@@ -1,15 +1,16 @@
 -- What each form of a node-list text gives is what document 01 says of it.
 -- Assumes nothing.
 use mathlib.Core.Path.{◌≡◌, refl, sym, ap, subst, ◌∙◌}
-use mathlib.Core.Bool.{Bool, true, false, not, ◌&&◌, cond, and-true, false≢true}
+use mathlib.Core.Bool.{Bool, true, false, not, ◌&&◌, cond, false≢true}
 use mathlib.Core.List.{List, [], ◌∷◌}
 use mathlib.Core.Option.{none, some}
-use Prim.Native.Nat.{ℕ, suc, ◌-◌, ◌^◌, ◌≤◌, ◌<◌}
+use Prim.Native.Nat.{ℕ, ◌-◌, ◌^◌, ◌≤◌, ◌<◌}
 use native.Mathlib.Nat.{le_refl, lt_irrefl}
 use native.Mathlib.Omega.{arith}
 use lib.ListN.{length, get_or, take, drop, length-drop}
 use lib.Seq.{take_all}
 use lib.Dec.{eqb}
+use lib.Pointwise.{pointwise}
 use borrow.Author.Tests.{eq-eqb, ne_eqb, le-leb, lt-leb}
 use Rattle.rules.specs.Basics.{same}
 use Rattle.rules.specs.Machine.{nodes_ok}
@@ -18,7 +19,7 @@ use Rattle.rules.specs.Masks.{most_nodes, below, has, all_nodes, rank, size, mas
 use Rattle.rules.specs.Text.{bang, plus, all_word, longest_text, is_items, names, no_text, allText, items, except, ranks, form_by, form_of, form_ok}
 use Rattle.rules.specs.Text.{form_mask}
 use Rattle.rules.specs.Text.{read_text}
-use Rattle.rules.proofs.Lists.{both_true, fails}
+use Rattle.rules.proofs.Lists.{fails}
 use Rattle.rules.proofs.Masks.{not_in, bit_above, rank_le, mask_of_lt, has_mask_of, mask_of_same, mask_of_narrow, mask_of_not}
 use Rattle.nodelist.proofs.Items.{names_below}
 use Rattle.nodemask.specs.Ranks.{ranked_in}
@@ -27,26 +28,13 @@ use Rattle.nodelist.specs.Forms.{Below, except_for, ranked_for, form_read, decid
 
 -- ---- the word `all`
 
-same_length : (xs ys : List ℕ) → same xs ys ≡ true → length xs ≡ length ys
+-- texts that are compared byte by byte
+pub same_pointwise : (xs ys : List ℕ) → pointwise eqb xs ys ≡ same xs ys
 unfolding same
-same_length [] [] e = refl
-same_length [] (y ∷ ys) e = absurd (false≢true e)
-same_length (x ∷ xs) [] e = absurd (false≢true e)
-same_length (x ∷ xs) (y ∷ ys) e = ap suc (same_length xs ys (both_true {a = eqb x y} e).1)
-
--- texts of different lengths differ
-pub same_not : (xs ys : List ℕ) → (length xs ≡ length ys → ⊥) → same xs ys ≡ false
-same_not xs ys n = fails (λ e. n (same_length xs ys e))
-
--- a text of three bytes, byte by byte
-pub same_three : (xs : List ℕ) (a b c : ℕ) → length xs ≡ 3
-    → same xs (a ∷ b ∷ c ∷ []) ≡ (eqb (get_or xs 0 0) a && (eqb (get_or xs 1 0) b && eqb (get_or xs 2 0) c))
-unfolding same
-same_three [] a b c l = absurd (omega arith)
-same_three (x ∷ []) a b c l = absurd (omega arith)
-same_three (x ∷ y ∷ []) a b c l = absurd (omega arith)
-same_three (x ∷ y ∷ z ∷ []) a b c l = ap (λ (t : Bool). eqb x a && (eqb y b && t)) (and-true (eqb z c))
-same_three (x ∷ y ∷ z ∷ w ∷ xs) a b c l = absurd (omega arith)
+same_pointwise [] [] = refl
+same_pointwise [] (y ∷ ys) = refl
+same_pointwise (x ∷ xs) [] = refl
+same_pointwise (x ∷ xs) (y ∷ ys) = ap (λ (t : Bool). eqb x y && t) (same_pointwise xs ys)
 
 -- ---- which form a text has
 

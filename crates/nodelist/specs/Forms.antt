@@ -1,9 +1,10 @@
 -- What each form of a node-list text gives.
-use Rattle.std.specs.Prelude.{ℕ, ◌-◌, ◌^◌, ◌<◌, cond}
+use Rattle.std.specs.Prelude.{ℕ, ◌-◌, ◌^◌, ◌<◌, cond, Option as StdOption, Some, None}
 use Rattle.std.proofs.Math.Option.{Option, none, some}
 use Rattle.rules.specs.Masks.{all_nodes}
 use Rattle.rules.specs.Decisions.{Decision, refuse, accept}
 use Rattle.rules.specs.Text.{Form, form_ok, form_mask}
+use Rattle.nodemask.specs.declared.Mask.{Mask}
 use Rattle.nodemask.specs.Ranks.{ranked_in}
 
 -- a mask that was read has no bit at n or above
@@ -24,6 +25,11 @@ ranked_for allowed none = none
 -- the mask of a form, if it is in order
 unfoldable pub form_read : ℕ → ℕ → Form → Option ℕ
 form_read n allowed form = cond (form_ok n allowed form) (some (form_mask n allowed form)) none
+
+-- what the mask of a reader of forms stands for
+abbrev pub mask_read : StdOption Mask → Option ℕ
+mask_read (Some m) = some m.0
+mask_read None = none
 
 -- "Anything else is 12": the answer by what was read
 abbrev pub decided : Option ℕ → Decision ℕ

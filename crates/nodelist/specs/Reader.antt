@@ -1,5 +1,5 @@
 -- The reader of node-list text, a byte at a time: what each of its functions gives, and what the whole is by document 01.
-use Rattle.std.specs.Prelude.{ℕ, ◌+◌, ◌-◌, ◌*◌, ◌<◌, cond, List, [], ◌∷◌, eqb, leb, ltb}
+use Rattle.std.specs.Prelude.{ℕ, ◌+◌, ◌-◌, ◌*◌, ◌<◌, cond, List, [], ◌∷◌, eqb, leb, ltb, Option as StdOption, Some, None}
 use Rattle.std.proofs.Math.Option.{Option, none, some}
 use Rattle.std.specs.Int.Bits.{bit_or}
 use Rattle.rules.specs.Basics.{between}
@@ -9,8 +9,6 @@ use Rattle.nodelist.specs.declared.reader.Numbers.{Numbers}
 use Rattle.nodelist.specs.declared.reader.Item.{Item}
 use Rattle.nodelist.specs.declared.reader.Item.TheVariants.{Empty, Number, Dashed, Range, Broken}
 use Rattle.nodelist.specs.declared.reader.Progress.{Progress}
-use Rattle.nodelist.specs.declared.reader.Items.{Items}
-use Rattle.nodelist.specs.declared.reader.Items.TheVariants.{Named, Bad}
 
 -- the numbers of an item lie below the limit
 abbrev pub Fits : ℕ → Item → Type 0
@@ -94,9 +92,9 @@ unfoldable pub ended : Progress → Option ℕ
 ended r = answer (closed r.named r.item).named (closed r.named r.item).item
 
 -- what the answer of a reader of items stands for
-abbrev pub numbers_read : Items → Option ℕ
-numbers_read (Named m) = some m.0
-numbers_read Bad = none
+abbrev pub numbers_read : StdOption Numbers → Option ℕ
+numbers_read (Some m) = some m.0
+numbers_read None = none
 
 -- "one or more items split by single commas": the numbers that they name, if all are items
 unfoldable pub items_read : ℕ → List ℕ → Option ℕ

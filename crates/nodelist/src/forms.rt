@@ -1,80 +1,55 @@
 // Reads a node-list text by its form: empty, `all`, items, and items after `!` or `+`.
 
 ghost use Rattle.std.specs.Prelude.{◌≡◌, ◌^◌, ◌<◌, ◌≤◌, length, drop};
-ghost use Rattle.rules.specs.Basics.{same};
 ghost use Rattle.rules.specs.Masks.{most_nodes, size};
-ghost use Rattle.rules.specs.Text.{all_word, form_of};
+ghost use Rattle.rules.specs.Text.{form_of};
 ghost use Rattle.nodelist.specs.Reader.{items_read};
-ghost use Rattle.nodelist.specs.Forms.{except_for, ranked_for, form_read, decided};
-ghost use Rattle.rules.specs.Answers.{decision_of};
+ghost use Rattle.nodelist.specs.Forms.{except_for, ranked_for, form_read, mask_read};
 
-use crate::reader::{Items, read_items};
+use crate::reader::read_items;
 use nodemask::Mask;
-use rules::{Decision, Refusal};
-
-// The text is the word `all`.
-fn is_all(text: &[u8]) -> bool
-    ensures { result ≡ same text.now all_word }
-{
-    if text.len() != 3 {
-        return false;
-    }
-    (text[0] == b'a') & ((text[1] == b'l') & (text[2] == b'l'))
-}
 
 // A text of items: the nodes named.
-fn read_plain(text: &[u8], nodes: usize) -> Decision
+fn read_plain(text: &[u8], nodes: usize) -> Option<Mask>
     requires { nodes ≤ most_nodes }
-    ensures { decision_of result ≡ decided (items_read nodes text.now) }
+    ensures { mask_read result ≡ items_read nodes text.now }
 {
-    let items = read_items(text, nodes);
-    match items {
-        Items::Named(named) => Decision::Accept(named.nodes().0),
-        Items::Bad => Decision::Refuse(Refusal::BadText),
-    }
+    let named = read_items(text, nodes)?;
+    Some(named.nodes())
 }
 
 // A text after `!`: all nodes below N not named.
-fn read_except(text: &[u8], nodes: usize) -> Decision
+fn read_except(text: &[u8], nodes: usize) -> Option<Mask>
     requires { (0 < length text.now) × (nodes ≤ most_nodes) }
-    ensures { decision_of result ≡ decided (except_for nodes (items_read nodes (drop 1 text.now))) }
+    ensures { mask_read result ≡ except_for nodes (items_read nodes (drop 1 text.now)) }
 {
-    let items = read_items(&text[1..], nodes);
-    match items {
-        Items::Named(named) => Decision::Accept(named.nodes().complement(nodes).0),
-        Items::Bad => Decision::Refuse(Refusal::BadText),
-    }
+    let named = read_items(&text[1..], nodes)?;
+    Some(named.nodes().complement(nodes))
 }
 
 // A text after `+`: the allowed nodes whose ranks are named.
-fn read_ranks(text: &[u8], allowed: Mask) -> Decision
+fn read_ranks(text: &[u8], allowed: Mask) -> Option<Mask>
     requires { 0 < length text.now }
-    ensures { decision_of result ≡ decided (ranked_for allowed.0 (items_read (size most_nodes allowed.0) (drop 1 text.now))) }
+    ensures { mask_read result ≡ ranked_for allowed.0 (items_read (size most_nodes allowed.0) (drop 1 text.now)) }
 {
-    let items = read_items(&text[1..], allowed.size() as usize);
-    match items {
-        Items::Named(named) => Decision::Accept(allowed.ranked(named.ranks()).0),
-        Items::Bad => Decision::Refuse(Refusal::BadText),
-    }
+    let named = read_items(&text[1..], allowed.size() as usize)?;
+    Some(allowed.ranked(named.ranks()))
 }
 
-// The nodes that a text names, by its form.
-pub fn read_form(nodes: usize, allowed: Mask, text: &[u8]) -> Decision
+// The nodes that a text names, by its form, if it is in order.
+pub fn read_form(nodes: usize, allowed: Mask, text: &[u8]) -> Option<Mask>
     requires { (nodes ≤ most_nodes) × (allowed.0 < 2 ^ nodes) }
-    ensures { decision_of result ≡ decided (form_read nodes allowed.0 (form_of text.now)) }
+    ensures { mask_read result ≡ form_read nodes allowed.0 (form_of text.now) }
 {
-    if text.len() == 0 {
-        return Decision::Accept(0);
+    if text.is_empty() {
+        return Some(Mask::EMPTY);
     }
-    if is_all(text) {
-        return Decision::Accept(allowed.0);
+    if text == b"all".as_slice() {
+        return Some(allowed);
     }
-    let mark = text[0];
-    if mark == b'!' {
-        return read_except(text, nodes);
+    match text[0] {
+        b'!' => read_except(text, nodes),
+        b'+' => read_ranks(text, allowed),
+        _ => read_plain(text, nodes),
     }
-    if mark == b'+' {
-        return read_ranks(text, allowed);
-    }
-    read_plain(text, nodes)
 }

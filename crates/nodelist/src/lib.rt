@@ -18,7 +18,7 @@ use rules::{Decision, Refusal};
 pub fn read_nodes(nodes: usize, allowed: u64, text: &[u8]) -> Decision
     ensures { decision_of result ≡ read_text nodes allowed text.now }
 {
-    let limit = Mask::of(allowed);
+    let limit = Mask(allowed);
     if !nodemask::nodes_ok(nodes) {
         return Decision::Refuse(Refusal::BadTables);
     }
@@ -28,14 +28,17 @@ pub fn read_nodes(nodes: usize, allowed: u64, text: &[u8]) -> Decision
     if text.len() > 255 {
         return Decision::Refuse(Refusal::BadText);
     }
-    forms::read_form(nodes, limit, text)
+    match forms::read_form(nodes, limit, text) {
+        Some(named) => Decision::Accept(named.0),
+        None => Decision::Refuse(Refusal::BadText),
+    }
 }
 
 // The text of a mask, `nodes` being N, put at the start of the output: its length.
 pub fn write_nodes(nodes: usize, mask: u64, out: &mut [u8]) -> Decision
     ensures { wrote (decision_of result) out.new ≡ write_text nodes mask out.old }
 {
-    let set = Mask::of(mask);
+    let set = Mask(mask);
     if !nodemask::nodes_ok(nodes) {
         return Decision::Refuse(Refusal::BadTables);
     }

@@ -30,13 +30,6 @@ pub struct Progress {
     pub item: Item,
 }
 
-// What the items of a text name.
-#[derive(Clone, Copy)]
-pub enum Items {
-    Named(Numbers),
-    Bad,
-}
-
 // A number with one digit more. After 0 there is none below the limit.
 fn grown(value: usize, digit: usize, limit: usize) -> usize
     requires { (value < most_nodes) × (digit < 10) }
@@ -64,14 +57,14 @@ impl Numbers {
     pub fn nodes(self) -> Mask
         ensures { result.0 ≡ self.0 }
     {
-        Mask::of(self.0)
+        Mask(self.0)
     }
 
     // The ranks of these numbers.
     pub fn ranks(self) -> Ranks
         ensures { result.0 ≡ self.0 }
     {
-        Ranks::of(self.0)
+        Ranks(self.0)
     }
 }
 
@@ -111,11 +104,8 @@ impl Item {
         ensures { result ≡ with_dash self }
     {
         match self {
-            Item::Empty => Item::Broken,
             Item::Number(value) => Item::Dashed(value),
-            Item::Dashed(_) => Item::Broken,
-            Item::Range(_, _) => Item::Broken,
-            Item::Broken => Item::Broken,
+            Item::Empty | Item::Dashed(_) | Item::Range(_, _) | Item::Broken => Item::Broken,
         }
     }
 
@@ -143,20 +133,15 @@ impl Progress {
         requires { Fits most_nodes self.item }
         ensures { result ≡ closed self.named self.item }
     {
-        let named = self.named;
-        let item = self.item;
+        let Progress { named, item } = self;
+        let broken = Progress {
+            named,
+            item: Item::Broken,
+        };
         match item {
-            Item::Empty => Progress {
-                named: named,
-                item: Item::Broken,
-            },
             Item::Number(value) => Progress {
                 named: named.with_span(value, value),
                 item: Item::Empty,
-            },
-            Item::Dashed(_) => Progress {
-                named: named,
-                item: Item::Broken,
             },
             Item::Range(low, high) => {
                 if low <= high {
@@ -165,15 +150,9 @@ impl Progress {
                         item: Item::Empty,
                     };
                 }
-                Progress {
-                    named: named,
-                    item: Item::Broken,
-                }
+                broken
             }
-            Item::Broken => Progress {
-                named: named,
-                item: Item::Broken,
-            },
+            Item::Empty | Item::Dashed(_) | Item::Broken => broken,
         }
     }
 
@@ -185,34 +164,27 @@ impl Progress {
         if x == b',' {
             return self.close();
         }
-        let named = self.named;
-        let item = self.item;
         Progress {
-            named: named,
-            item: item.byte(x, limit),
+            item: self.item.byte(x, limit),
+            ..self
         }
     }
 
-    // The text ends here.
-    fn end(self) -> Items
+    // The text ends here: the numbers that it names, if the last item ended well.
+    fn end(self) -> Option<Numbers>
         requires { Fits most_nodes self.item }
         ensures { numbers_read result ≡ ended self }
     {
-        let last = self.close();
-        let named = last.named;
-        let item = last.item;
+        let Progress { named, item } = self.close();
         match item {
-            Item::Empty => Items::Named(named),
-            Item::Number(_) => Items::Bad,
-            Item::Dashed(_) => Items::Bad,
-            Item::Range(_, _) => Items::Bad,
-            Item::Broken => Items::Bad,
+            Item::Empty => Some(named),
+            Item::Number(_) | Item::Dashed(_) | Item::Range(_, _) | Item::Broken => None,
         }
     }
 }
 
-// The numbers below the limit that a text of items names.
-pub fn read_items(text: &[u8], limit: usize) -> Items
+// The numbers below the limit that a text of items names, if all are items.
+pub fn read_items(text: &[u8], limit: usize) -> Option<Numbers>
     requires { limit ≤ most_nodes }
     ensures { numbers_read result ≡ items_read limit text.now }
 {
@@ -220,10 +192,8 @@ pub fn read_items(text: &[u8], limit: usize) -> Items
         named: Numbers::EMPTY,
         item: Item::Empty,
     };
-    let mut i = 0;
-    while i < text.len() {
-        at = at.step(text[i], limit);
-        i += 1;
+    for x in text {
+        at = at.step(*x, limit);
     }
     at.end()
 }

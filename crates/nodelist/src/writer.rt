@@ -10,27 +10,30 @@ ghost use Rattle.rules.specs.Decisions.{wrote, written};
 ghost use Rattle.rules.specs.Text.{text_of};
 
 use nodemask::Mask;
-use rules::{Decision, MOST_NODES, Refusal, SysNode};
+use rules::{Decision, Refusal, SysNode};
 
-// A run of nodes from low to high, if there is one.
+// A run of nodes from low to high.
 #[derive(Clone, Copy)]
-pub enum NextRun {
-    Run(SysNode, SysNode),
-    Nothing,
+pub struct Run {
+    pub low: SysNode,
+    pub high: SysNode,
 }
 
-// The first run of a mask from a node on.
-fn next_run(mask: Mask, from: SysNode) -> NextRun
-    requires { from.0 < most_nodes }
-    ensures { FirstFrom mask.0 from.0 result }
+// The first run of a mask from a node on, if there is one: from 64 on there is none.
+fn next_run(mask: Mask, from: u8) -> Option<Run>
+    requires { from ≤ most_nodes }
+    ensures { FirstFrom mask.0 from result }
 {
-    let above = mask.0 >> from.0;
+    let above = u64::checked_shr(mask.0, from as u32)?;
     if above == 0 {
-        return NextRun::Nothing;
+        return None;
     }
-    let low = from.0 + (u64::trailing_zeros(above) as u8);
+    let low = from + (u64::trailing_zeros(above) as u8);
     let ones = u64::trailing_zeros(!(mask.0 >> low)) as u8;
-    NextRun::Run(SysNode(low), SysNode(low + ones - 1))
+    Some(Run {
+        low: SysNode(low),
+        high: SysNode(low + ones - 1),
+    })
 }
 
 // A number put into a line at an index: the index after it.
@@ -49,14 +52,15 @@ fn put_number(line: &mut [u8; 192], at: usize, n: usize) -> usize
 }
 
 // A comma and a run put into a line at an index: the index after them.
-fn put_run(line: &mut [u8; 192], at: usize, low: SysNode, high: SysNode) -> usize
-    requires { (low.0 ≤ high.0) × (high.0 < most_nodes) × (at + length (line_run (run_of low.0 high.0)) ≤ line_bytes) }
-    ensures end { result ≡ at + length (line_run (run_of low.0 high.0)) }
-    ensures put { line.new ≡ sets line.old at (line_run (run_of low.0 high.0)) }
+fn put_run(line: &mut [u8; 192], at: usize, run: Run) -> usize
+    requires { (run.low.0 ≤ run.high.0) × (run.high.0 < most_nodes) × (at + length (line_run (run_of run.low.0 run.high.0)) ≤ line_bytes) }
+    ensures end { result ≡ at + length (line_run (run_of run.low.0 run.high.0)) }
+    ensures put { line.new ≡ sets line.old at (line_run (run_of run.low.0 run.high.0)) }
 {
+    let Run { low, high } = run;
     line[at] = b',';
     let mid = put_number(line, at + 1, low.0 as usize);
-    if low.0 == high.0 {
+    if low == high {
         return mid;
     }
     line[mid] = b'-';
@@ -70,18 +74,10 @@ fn put_runs(line: &mut [u8; 192], mask: Mask) -> usize
     ensures text { take result line.new ≡ line_of mask.0 }
 {
     let mut len = 0;
-    let mut at: u8 = 0;
-    while (at as usize) < MOST_NODES {
-        let run = next_run(mask, SysNode(at));
-        match run {
-            NextRun::Run(low, high) => {
-                len = put_run(line, len, low, high);
-                at = high.0 + 1;
-            }
-            NextRun::Nothing => {
-                return len;
-            }
-        }
+    let mut from: u8 = 0;
+    while let Some(run) = next_run(mask, from) {
+        len = put_run(line, len, run);
+        from = run.high.0 + 1;
     }
     len
 }

@@ -2,7 +2,6 @@
 -- Assumes nothing.
 use borrow.Author.Tests.{eq-eqb, ne_eqb}
 use Rattle.nodelist.specs.Reader.{grown}
-use borrow.Author.Rules.{rules}
 use Rattle.nodelist.proofs.reader.grown.Goals as goal
 
 pub returns-then-value-eq0 : goal.returns-then-value-eq0

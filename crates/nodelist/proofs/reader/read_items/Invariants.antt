@@ -1,16 +1,8 @@
--- `read_items` meets its contract. The loop's invariant: to read on from here is to read the whole.
+-- The loop's invariant: to read on from here is to read the whole.
 -- Assumes nothing.
-use mathlib.Core.Path.{◌≡◌, refl, sym, ap, ◌∙◌}
-use Prim.Native.Nat.{◌-◌, ◌≤◌}
-use native.Mathlib.Omega.{arith}
-use lib.ListN.{length, drop}
-use borrow.Author.Rules.{rules}
-use Rattle.nodelist.specs.Reader.{Fits, read_on, ended}
-use Rattle.nodelist.proofs.Bytewise.{fits_wider, stepped_fits, read_end, reads_byte_at, reads_items}
+use Rattle.std.specs.Prelude.{◌≡◌, drop}
+use Rattle.nodelist.specs.Reader.{Fits, read_on}
 use Rattle.nodelist.proofs.reader.read_items.Given as goal
 
-abbrev pub invariant-loop-i : goal.invariant-loop-i
-invariant-loop-i l = (l.i ≤ length l.text) × Fits l.limit l.at.item × (read_on l.limit l.initial.at l.text ≡ read_on l.limit l.at (drop l.i l.text))
-
-abbrev pub decreases-loop-i : goal.decreases-loop-i
-decreases-loop-i l = length l.text - l.i
+abbrev pub invariant-loop-x : goal.invariant-loop-x
+invariant-loop-x l = Fits l.limit l.at.item × (read_on l.limit l.initial.at l.text ≡ read_on l.limit l.at (drop l.x-index l.text))

@@ -3,9 +3,7 @@
 use mathlib.Core.Path.{sym, ◌∙◌}
 use native.Mathlib.Nat.{pos_of_ne-zero}
 use native.Mathlib.Omega.{arith}
-use borrow.Author.Rules.{rules}
-use Rattle.nodelist.specs.Writer.{line_of}
-use Rattle.nodelist.proofs.WriteLaws.{text_length, text_part_lem, long_enough, text_empty, text_too_long, text_copied}
+use Rattle.nodelist.proofs.WriteLaws.{text_length, text_part_lem, text_empty, text_too_long, text_copied}
 use Rattle.nodelist.proofs.writer.write_text.Goals as goal
 
 pub returns-then-len-eq0 : goal.returns-then-len-eq0
@@ -21,7 +19,3 @@ returns c = text_copied c.args.mask.0 c.args.out.now
     (text_part_lem c.args.mask.0 c.put_runs-len.result c.put_runs-len.new.line (pos_of_ne-zero c.if-len-eq0.false) c.put_runs-len.ensures.text)
     c.copy-size.ensures.count
     c.copy-size.ensures.bytes
-
--- TODO answer part-copy-end: no goal for slice-bounds-copy-end; needs ['put-runs-requires', 'returns', 'sub-if2', 'returns-2', 'sub-copy',
--- 'part-copy-start', 'part-copy-end', 'copy-requires', 'same-length', 'returns-3']
--- TODO     long_enough _ _ (line_of c.args.mask.0) c.put_runs-len.ensures.len c.put_runs-len.ensures.text

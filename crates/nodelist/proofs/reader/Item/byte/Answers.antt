@@ -2,7 +2,6 @@
 -- Assumes nothing.
 use borrow.Author.Tests.{eq-eqb, ne_eqb, le-leb, lt-leb}
 use Rattle.nodelist.specs.Reader.{with_byte}
-use borrow.Author.Rules.{rules}
 use Rattle.nodelist.proofs.reader.Item.byte.Goals as goal
 
 pub returns-then-x-eq45 : goal.returns-then-x-eq45

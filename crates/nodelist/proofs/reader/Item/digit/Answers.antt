@@ -1,10 +1,6 @@
 -- `Item::digit` meets its contract, case by case.
 -- Assumes nothing.
-use mathlib.Core.Path.{subst}
-use native.Mathlib.Omega.{arith}
-use Rattle.nodelist.specs.Reader.{Fits}
 use Rattle.nodelist.specs.Reader.{with_digit}
-use borrow.Author.Rules.{rules}
 use Rattle.nodelist.proofs.reader.Item.digit.Goals as goal
 
 pub returns-in-Empty : goal.returns-in-Empty

@@ -3,7 +3,6 @@
 use Prim.Native.Nat.{◌+◌, ◌^◌, ◌≤◌}
 use native.Mathlib.Omega.{arith}
 use lib.Pow.{pow_mono}
-use borrow.Author.Rules.{rules}
 use Rattle.nodelist.proofs.reader.Numbers.with_span.Goals as goal
 
 pub overflow_sub-result : goal.overflow_sub-result

@@ -1,25 +1,14 @@
 -- `Progress::end` meets its contract, by what closing leaves.
 -- Assumes nothing.
+use Rattle.std.proofs.Common.{inl, inr}
 use Rattle.nodelist.specs.Reader.{ended}
-use borrow.Author.Rules.{rules}
 use Rattle.nodelist.proofs.reader.Progress.end.Goals as goal
 
 pub returns-in-Empty : goal.returns-in-Empty
 unfolding ended
-returns-in-Empty c = rw (← c.close-last.ensures, c.in-Empty.is)
+returns-in-Empty c = rw (← c.close-item.ensures, c.in-Empty.is)
 
 pub returns-in-Number : goal.returns-in-Number
 unfolding ended
-returns-in-Number c = rw (← c.close-last.ensures, c.in-Number.is)
-
-pub returns-in-Dashed : goal.returns-in-Dashed
-unfolding ended
-returns-in-Dashed c = rw (← c.close-last.ensures, c.in-Dashed.is)
-
-pub returns-in-Range : goal.returns-in-Range
-unfolding ended
-returns-in-Range c = rw (← c.close-last.ensures, c.in-Range.is)
-
-pub returns-in-Broken : goal.returns-in-Broken
-unfolding ended
-returns-in-Broken c = rw (← c.close-last.ensures, c.in-Broken.is)
+returns-in-Number c = rw (← c.close-item.ensures)
+    (elim c.in-Number.is [ inl (_, e) ↦ rw e | inr (inl (_, e)) ↦ rw e | inr (inr (inl (_, _, e))) ↦ rw e | inr (inr (inr e)) ↦ rw e ])

@@ -1,9 +1,7 @@
 -- `Progress::step` meets its contract, by its test.
 -- Assumes nothing.
-use Rattle.nodelist.proofs.Bytewise.{fits_wider}
 use borrow.Author.Tests.{eq-eqb, ne_eqb}
 use Rattle.nodelist.specs.Reader.{stepped}
-use borrow.Author.Rules.{rules}
 use Rattle.nodelist.proofs.reader.Progress.step.Goals as goal
 
 pub returns-then-x-eq44 : goal.returns-then-x-eq44
