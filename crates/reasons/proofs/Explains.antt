@@ -4,7 +4,8 @@ use Prim.Native.Nat.{ℕ, ◌≤◌, ◌<◌}
 use mathlib.Core.Path.{◌≡◌, sym}
 use mathlib.Core.Bool.{true, false}
 use mathlib.Core.List.{List, ◌++◌, map}
-use mathlib.Core.Option.{Option}
+use mathlib.Core.Option as Math
+use Rattle.std.specs.Prelude.{Option, Some, None}
 use lib.ListN.{length, drop}
 use borrow.Author.Tests.{le-leb, lt-leb}
 use Rattle.rules.specs.Basics.{from}
@@ -17,21 +18,20 @@ use Rattle.rules.specs.Reasons.{reason_in, reason_of, reasons_of, meets_room, re
 use Rattle.machine.specs.Tables.{Starts}
 use Rattle.placement.specs.Searches.{chosen_by}
 use Rattle.placement.specs.declared.search.Chosen.{Chosen}
-use Rattle.placement.specs.declared.search.Chosen.TheVariants.{At, Nothing}
 use Rattle.placement.proofs.Grants.{chose}
 use Rattle.placement.proofs.Hints.{no_hints}
 use Rattle.placement.proofs.Requests.{let_through, searchable}
 use Rattle.reasons.specs.Explains.{IsNode, Explainable, explained}
 
 -- a node that a search has chosen is one of the machine's
-pub is_node_lem : (counts free : List ℕ) (ts : List Try) (c : Chosen) → length free ≡ length counts → chosen_by c ≡ chosen free ts → IsNode (length counts) c
-is_node_lem counts free ts (At n cursor) e h = (chose counts free ts _ e h).node
-is_node_lem counts free ts Nothing e h = tt
+pub is_node_lem : (counts free : List ℕ) (ts : List Try) (c : Option Chosen) → length free ≡ length counts → chosen_by c ≡ chosen free ts → IsNode (length counts) c
+is_node_lem counts free ts (Some c) e h = (chose counts free ts _ e h).node
+is_node_lem counts free ts None e h = tt
 
 -- ---- 14, or the reasons
 
 module _ (counts distances ledger free : List ℕ) (limit : ℕ) (r : Record) (x : ℕ) (out : List ℕ) where
-  abbrev choice : Option Try
+  abbrev choice : Math.Option Try
   choice = chosen free (order (length counts) distances limit (plan limit r x))
 
   pub no_room : meets_room counts ledger choice ≡ false → wrote (refuse 14) out ≡ explained counts distances ledger free limit r x out

@@ -1,5 +1,5 @@
 -- The reasons at a request that has passed its tests (request M-106).
-use Rattle.std.specs.Prelude.{ℕ, ◌<◌, ◌≡◌, List, ◌++◌, map, length, drop}
+use Rattle.std.specs.Prelude.{ℕ, ◌<◌, ◌≡◌, List, ◌++◌, map, length, drop, Option, Some, None}
 use Rattle.rules.specs.Basics.{from}
 use Rattle.rules.specs.Records.{Record}
 use Rattle.rules.specs.SearchOrder.{plan, order, chosen}
@@ -8,12 +8,11 @@ use Rattle.rules.specs.Decisions.{accept, unless, decided, Written, wrote, not_w
 use Rattle.placement.specs.Grants.{Paged}
 use Rattle.placement.specs.Searches.{Searchable}
 use Rattle.placement.specs.declared.search.Chosen.{Chosen}
-use Rattle.placement.specs.declared.search.Chosen.TheVariants.{At, Nothing}
 
 -- a node that is chosen is one of n
-abbrev pub IsNode : ℕ → Chosen → Type 0
-IsNode n (At k cursor) = k.0 < n
-IsNode n Nothing = Unit {0}
+abbrev pub IsNode : ℕ → Option Chosen → Type 0
+IsNode n (Some c) = c.node.0 < n
+IsNode n None = Unit {0}
 
 -- What the reasons may count on: the pages of each node, a free count for each, and a request that may be searched for.
 pub record Explainable (counts starts distances ledger free : List ℕ) (limit : ℕ) (r : Record) (x : ℕ) : Type 0 where

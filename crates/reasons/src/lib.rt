@@ -19,8 +19,8 @@ use nodemask::Mask;
 use pages;
 use placement;
 use placement::plan::Plan;
+use placement::search;
 use placement::search::Chosen;
-use placement::{Admission, search};
 use records::record::Record;
 use rules::{Decision, MOST_NODES, Refusal, SysNode};
 
@@ -39,13 +39,18 @@ fn has_room(counts: &[u32], starts: &[u32; MOST_NODES + 1], pages: &[u8], node: 
 }
 
 // M-100's 14: has the node that is chosen a free page? Where none is chosen, none is met.
-fn meets_room(counts: &[u32], starts: &[u32; MOST_NODES + 1], pages: &[u8], chosen: Chosen) -> bool
+fn meets_room(
+    counts: &[u32],
+    starts: &[u32; MOST_NODES + 1],
+    pages: &[u8],
+    chosen: Option<Chosen>,
+) -> bool
     requires { Paged counts.now starts.now pages.now × IsNode (length counts.now) chosen }
     ensures { result ≡ meets_room counts.now pages.now (chosen_by chosen) }
 {
     match chosen {
-        Chosen::At(node, _) => has_room(counts, starts, pages, node),
-        Chosen::Nothing => true,
+        Some(chosen) => has_room(counts, starts, pages, chosen.node),
+        None => true,
     }
 }
 
@@ -96,16 +101,24 @@ fn write_at(
 {
     let admission = placement::admit(counts, cpus, distances, pages, jobs, free, maps, job, cpu);
     match admission {
-        Admission::Passed(record, limit) => {
+        Ok(admitted) => {
             if out.len() < counts.len() {
                 return Decision::Refuse(Refusal::OutputTooShort);
             }
             let x = SysNode(cpus[cpu]);
             explain(
-                counts, starts, distances, pages, free, record, limit, x, out,
+                counts,
+                starts,
+                distances,
+                pages,
+                free,
+                admitted.record,
+                admitted.limit,
+                x,
+                out,
             )
         }
-        Admission::Refused(why) => Decision::Refuse(why),
+        Err(why) => Decision::Refuse(why),
     }
 }
 

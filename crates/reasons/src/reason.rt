@@ -42,12 +42,12 @@ impl Reason {
 }
 
 // Is the node the one that is chosen?
-fn is_chosen(chosen: Chosen, node: SysNode) -> bool
+fn is_chosen(chosen: Option<Chosen>, node: SysNode) -> bool
     ensures { result ≡ is_chosen (chosen_by chosen) node.0 }
 {
     match chosen {
-        Chosen::At(at, _) => at.0 == node.0,
-        Chosen::Nothing => false,
+        Some(chosen) => chosen.node == node,
+        None => false,
     }
 }
 
@@ -74,7 +74,7 @@ fn reason_of(limit: Mask, reach: Reach, count: u32, chosen: bool, node: SysNode)
 }
 
 // Puts the reason of each node at the start of the output. There is a count for each node.
-pub fn put_reasons(free: &[u32], limit: Mask, reach: Reach, chosen: Chosen, out: &mut [u8])
+pub fn put_reasons(free: &[u32], limit: Mask, reach: Reach, chosen: Option<Chosen>, out: &mut [u8])
     requires { (length free.now ≤ most_nodes) × (length free.now ≤ length out.old) }
     ensures { out.new ≡ map (reason_at free.now limit.0 reach (chosen_by chosen)) (from 0 (length free.now)) ++ drop (length free.now) out.old }
 {

@@ -5,10 +5,10 @@ use borrow.Author.Rules.{rules}
 use Rattle.rules.specs.Reasons.{meets_room}
 use Rattle.reasons.proofs.meets_room.Goals as goal
 
-pub returns-in-At : goal.returns-in-At
+pub returns-in-Some : goal.returns-in-Some
 unfolding meets_room
-returns-in-At c = rw c.in-At.is c.has_room.ensures
+returns-in-Some c = rw c.in-Some.is c.has_room.ensures
 
-pub returns-in-Nothing : goal.returns-in-Nothing
+pub returns-in-None : goal.returns-in-None
 unfolding meets_room
-returns-in-Nothing c = rw c.in-Nothing.is refl
+returns-in-None c = rw c.in-None.is refl

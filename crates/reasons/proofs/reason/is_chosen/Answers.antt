@@ -1,14 +1,12 @@
 -- `is_chosen` meets its contract.
 -- Assumes nothing.
-use mathlib.Core.Path.{refl}
-use borrow.Author.Rules.{rules}
 use Rattle.rules.specs.Reasons.{is_chosen}
 use Rattle.reasons.proofs.reason.is_chosen.Goals as goal
 
-pub returns-in-At : goal.returns-in-At
+pub returns-in-Some : goal.returns-in-Some
 unfolding is_chosen
-returns-in-At c = rw c.in-At.is refl
+returns-in-Some c = rw c.in-Some.is c.eq.ensures
 
-pub returns-in-Nothing : goal.returns-in-Nothing
+pub returns-in-None : goal.returns-in-None
 unfolding is_chosen
-returns-in-Nothing c = rw c.in-Nothing.is refl
+returns-in-None c = rw c.in-None.is
