@@ -31,6 +31,18 @@ pub type MetJobs = [Option<MetJob>; BYTES];
 // At first no job has been met.
 pub const NONE_MET: MetJobs = [None; BYTES];
 
+// What a drain reads and does not write: page counts, where each node's pages begin, the node x that is drained, the other nodes, nearest first, job
+// table and maps.
+#[derive(Clone, Copy)]
+pub struct Board<'a> {
+    pub counts: &'a [u32],
+    pub starts: &'a [u32; MOST_NODES + 1],
+    pub x: SysNode,
+    pub order: &'a [u8],
+    pub jobs: &'a [u64],
+    pub maps: &'a [u8],
+}
+
 // The nodes that the job of a byte may get; or none: the byte names no job, or the job's record or map is malformed.
 fn holder_of(nodes: usize, jobs: &[u64], maps: &[u8], byte: u8) -> Option<Mask>
     requires { (mapped_tables_ok nodes (length jobs.now) (length maps.now) ≡ true) × (0 < byte) }
@@ -48,14 +60,14 @@ fn holder_of(nodes: usize, jobs: &[u64], maps: &[u8], byte: u8) -> Option<Mask>
 }
 
 // The job of a byte, as it is kept, or judged now if it has not been met before; or none: its pages may not be moved.
-fn met_job(nodes: usize, jobs: &[u64], maps: &[u8], met: &MetJobs, byte: u8) -> Option<MetJob>
-    requires { (mapped_tables_ok nodes (length jobs.now) (length maps.now) ≡ true) × (0 < byte) }
-    ensures { MatchOption result (may_move nodes jobs.now maps.now (byte - 1) ≡ false) (λ job. (order free : List ℕ) → Met nodes order jobs.now maps.now free met.now → Kept nodes order jobs.now maps.now free job byte) }
+fn met_job(board: Board, met: &MetJobs, byte: u8) -> Option<MetJob>
+    requires { (mapped_tables_ok (length board.counts.now) (length board.jobs.now) (length board.maps.now) ≡ true) × (0 < byte) }
+    ensures { let b = board.entry in MatchOption result (may_move (length b.counts.now) b.jobs.now b.maps.now (byte - 1) ≡ false) (λ job. (order free : List ℕ) → Met (length b.counts.now) order b.jobs.now b.maps.now free met.now → Kept (length b.counts.now) order b.jobs.now b.maps.now free job byte) }
 {
     if let Some(job) = met[byte as usize] {
         return Some(job);
     }
-    let limit = holder_of(nodes, jobs, maps, byte)?;
+    let limit = holder_of(board.counts.len(), board.jobs, board.maps, byte)?;
     Some(MetJob { limit, from: 0 })
 }
 
@@ -73,26 +85,18 @@ fn next_open(order: &[u8], free: &[u32], limit: Mask, from: usize) -> Option<usi
 }
 
 // Where a page that has this byte goes.
-pub fn goal_of(
-    nodes: usize,
-    order: &[u8],
-    jobs: &[u64],
-    maps: &[u8],
-    free: &[u32],
-    met: &mut MetJobs,
-    byte: u8,
-) -> Option<SysNode>
-    requires { (mapped_tables_ok nodes (length jobs.now) (length maps.now) ≡ true) × (0 < byte) × (length order.now ≤ 64) × Met nodes order.now jobs.now maps.now free.now met.old }
-    ensures goes { goal_of result ≡ goal_by nodes order.now jobs.now maps.now free.now (byte - 1) }
-    ensures kept { Met nodes order.now jobs.now maps.now free.now met.new }
+pub fn goal_of(board: Board, free: &[u32], met: &mut MetJobs, byte: u8) -> Option<SysNode>
+    requires { (mapped_tables_ok (length board.counts.now) (length board.jobs.now) (length board.maps.now) ≡ true) × (0 < byte) × (length board.order.now ≤ 64) × Met (length board.counts.now) board.order.now board.jobs.now board.maps.now free.now met.old }
+    ensures goes { let b = board.entry in goal_of result ≡ goal_by (length b.counts.now) b.order.now b.jobs.now b.maps.now free.now (byte - 1) }
+    ensures kept { let b = board.entry in Met (length b.counts.now) b.order.now b.jobs.now b.maps.now free.now met.new }
 {
-    let job = met_job(nodes, jobs, maps, met, byte)?;
-    let at = next_open(order, free, job.limit, job.from as usize)?;
+    let job = met_job(board, met, byte)?;
+    let at = next_open(board.order, free, job.limit, job.from as usize)?;
     met[byte as usize] = Some(MetJob {
         limit: job.limit,
         from: at as u8,
     });
-    Some(SysNode(order[at]))
+    Some(SysNode(board.order[at]))
 }
 
 // The counts after a move from x to another node.
@@ -109,28 +113,19 @@ pub fn count_move(free: &mut [u32], x: SysNode, node: SysNode)
 }
 
 // A page of node x that has this byte: has it somewhere to go? Its move is counted; a free page has none.
-fn pass(
-    nodes: usize,
-    order: &[u8],
-    jobs: &[u64],
-    maps: &[u8],
-    free: &mut [u32],
-    met: &mut MetJobs,
-    x: SysNode,
-    byte: u8,
-) -> bool
-    requires { (mapped_tables_ok nodes (length jobs.now) (length maps.now) ≡ true) × Ordered nodes x.0 order.now free.old × Met nodes order.now jobs.now maps.now free.old met.old × (get_or free.old x.0 0 < 4294967295) }
+fn pass(board: Board, free: &mut [u32], met: &mut MetJobs, byte: u8) -> bool
+    requires { (mapped_tables_ok (length board.counts.now) (length board.jobs.now) (length board.maps.now) ≡ true) × Ordered (length board.counts.now) board.x.0 board.order.now free.old × Met (length board.counts.now) board.order.now board.jobs.now board.maps.now free.old met.old × (get_or free.old board.x.0 0 < 4294967295) }
     ensures stays { byte ≡ 0 → (result ≡ true) × (free.new ≡ free.old) }
-    ensures stuck { 0 < byte → goal_by nodes order.now jobs.now maps.now free.old (byte - 1) ≡ none → result ≡ false }
-    ensures goes { 0 < byte → (k : ℕ) → goal_by nodes order.now jobs.now maps.now free.old (byte - 1) ≡ some k → (result ≡ true) × (free.new ≡ after_move x.0 free.old k) }
-    ensures kept { Met nodes order.now jobs.now maps.now free.new met.new }
+    ensures stuck { let b = board.entry in 0 < byte → goal_by (length b.counts.now) b.order.now b.jobs.now b.maps.now free.old (byte - 1) ≡ none → result ≡ false }
+    ensures goes { let b = board.entry in 0 < byte → (k : ℕ) → goal_by (length b.counts.now) b.order.now b.jobs.now b.maps.now free.old (byte - 1) ≡ some k → (result ≡ true) × (free.new ≡ after_move b.x.0 free.old k) }
+    ensures kept { let b = board.entry in Met (length b.counts.now) b.order.now b.jobs.now b.maps.now free.new met.new }
 {
     if byte == 0 {
         return true;
     }
-    match goal_of(nodes, order, jobs, maps, free, met, byte) {
+    match goal_of(board, free, met, byte) {
         Some(node) => {
-            count_move(free, x, node);
+            count_move(free, board.x, node);
             true
         }
         None => false,
@@ -138,21 +133,13 @@ fn pass(
 }
 
 // Have all pages of node x that have these bytes somewhere to go? Each move is counted.
-fn all_pass(
-    nodes: usize,
-    order: &[u8],
-    jobs: &[u64],
-    maps: &[u8],
-    free: &mut [u32],
-    x: SysNode,
-    part: &[u8],
-) -> bool
-    requires { (mapped_tables_ok nodes (length jobs.now) (length maps.now) ≡ true) × Ordered nodes x.0 order.now free.old × (get_or free.old x.0 0 + length part.now ≤ 4294967295) }
-    ensures { result ≡ passes nodes order.now jobs.now maps.now x.0 free.old part.now }
+fn all_pass(board: Board, free: &mut [u32], part: &[u8]) -> bool
+    requires { (mapped_tables_ok (length board.counts.now) (length board.jobs.now) (length board.maps.now) ≡ true) × Ordered (length board.counts.now) board.x.0 board.order.now free.old × (get_or free.old board.x.0 0 + length part.now ≤ 4294967295) }
+    ensures { let b = board.entry in result ≡ passes (length b.counts.now) b.order.now b.jobs.now b.maps.now b.x.0 free.old part.now }
 {
     let mut met = NONE_MET;
     for byte in part {
-        if !pass(nodes, order, jobs, maps, free, &mut met, x, *byte) {
+        if !pass(board, free, &mut met, *byte) {
             return false;
         }
     }
@@ -160,24 +147,14 @@ fn all_pass(
 }
 
 // Has every held page of node x somewhere to go? By counts of its own, so that nothing is written.
-pub fn all_go(
-    counts: &[u32],
-    starts: &[u32; MOST_NODES + 1],
-    order: &[u8],
-    pages: &[u8],
-    jobs: &[u64],
-    free: &[u32],
-    maps: &[u8],
-    x: SysNode,
-) -> bool
-    requires { (mapped_tables_ok (length counts.now) (length jobs.now) (length maps.now) ≡ true) × Drainable counts.now starts.now x.0 order.now pages.now free.now }
-    ensures { (distances : List ℕ) → order.now ≡ near_others (length counts.now) distances x.0 → Goes result (moves counts.now distances x.0 (tables_of pages.now jobs.now free.now maps.now) (held_pages counts.now pages.now x.0)) }
+pub fn all_go(board: Board, pages: &[u8], free: &[u32]) -> bool
+    requires { (mapped_tables_ok (length board.counts.now) (length board.jobs.now) (length board.maps.now) ≡ true) × Drainable board.counts.now board.starts.now board.x.0 board.order.now pages.now free.now }
+    ensures { let b = board.entry in (distances : List ℕ) → b.order.now ≡ near_others (length b.counts.now) distances b.x.0 → Goes result (moves b.counts.now distances b.x.0 (tables_of pages.now b.jobs.now free.now b.maps.now) (held_pages b.counts.now pages.now b.x.0)) }
 {
-    let nodes = counts.len();
-    let start = starts[x.0 as usize] as usize;
-    let end = starts[x.0 as usize + 1] as usize;
+    let start = board.starts[board.x.0 as usize] as usize;
+    let end = board.starts[board.x.0 as usize + 1] as usize;
     let mut copies = [0u32; MOST_NODES];
-    let copy = &mut copies[..nodes];
+    let copy = &mut copies[..board.counts.len()];
     copy.copy_from_slice(free);
-    all_pass(nodes, order, jobs, maps, copy, x, &pages[start..end])
+    all_pass(board, copy, &pages[start..end])
 }

@@ -13,6 +13,7 @@ ghost use Rattle.machine.specs.Tables.{Starts};
 ghost use Rattle.placement.specs.Hints.{Hints};
 ghost use Rattle.drain.specs.Outcomes.{count_of, tables_after, pairs_after};
 
+use goals::Board;
 use machine;
 use machine::listing;
 use nodemask::Mask;
@@ -24,39 +25,32 @@ mod counting;
 pub mod goals;
 pub mod moving;
 
-// A drain of node x on tables that are in order, with counts that match: refusals 17 and 11. `order` has the other nodes, nearest first. The
-// pairs are put as far as there is room in `out`; `room` is what the caller has said.
+// A drain on tables that are in order, with counts that match: refusals 17 and 11. The pairs are put as far as there is room in `out`; `room` is
+// what the caller has said.
 fn drain_by(
-    counts: &[u32],
-    starts: &[u32; MOST_NODES + 1],
+    board: Board,
     hints: &mut [u32; HINTS],
-    order: &[u8],
     pages: &mut [u8],
-    jobs: &[u64],
     free: &mut [u32],
-    maps: &[u8],
-    x: SysNode,
     room: usize,
     out: &mut [u32],
 ) -> Result<u64, Refusal>
-    requires maps_value { (mapped_tables_ok (length counts.now) (length jobs.now) (length maps.now) ≡ true) × Drainable counts.now starts.now x.0 order.now pages.old free.old × Hints counts.now pages.old hints.old }
-    requires by_index { (distances : List ℕ) × (order.now ≡ near_others (length counts.now) distances x.0) }
-    ensures answer { (distances : List ℕ) → order.now ≡ near_others (length counts.now) distances x.0 → decision_of result ≡ count_of (moves_within counts.now distances x.0 (tables_of pages.old jobs.now free.old maps.now) room) }
-    ensures tables { (distances : List ℕ) → order.now ≡ near_others (length counts.now) distances x.0 → tables_of pages.new jobs.now free.new maps.now ≡ tables_after x.0 (tables_of pages.old jobs.now free.old maps.now) (moves_within counts.now distances x.0 (tables_of pages.old jobs.now free.old maps.now) room) }
-    ensures pairs { (distances : List ℕ) → order.now ≡ near_others (length counts.now) distances x.0 → room ≡ length out.old → out.new ≡ pairs_after out.old (moves_within counts.now distances x.0 (tables_of pages.old jobs.now free.old maps.now) room) }
-    ensures kept { Hints counts.now pages.new hints.new }
+    requires maps_value { (mapped_tables_ok (length board.counts.now) (length board.jobs.now) (length board.maps.now) ≡ true) × Drainable board.counts.now board.starts.now board.x.0 board.order.now pages.old free.old × Hints board.counts.now pages.old hints.old }
+    requires by_index { (distances : List ℕ) × (board.order.now ≡ near_others (length board.counts.now) distances board.x.0) }
+    ensures answer { let b = board.entry in (distances : List ℕ) → b.order.now ≡ near_others (length b.counts.now) distances b.x.0 → decision_of result ≡ count_of (moves_within b.counts.now distances b.x.0 (tables_of pages.old b.jobs.now free.old b.maps.now) room) }
+    ensures tables { let b = board.entry in (distances : List ℕ) → b.order.now ≡ near_others (length b.counts.now) distances b.x.0 → tables_of pages.new b.jobs.now free.new b.maps.now ≡ tables_after b.x.0 (tables_of pages.old b.jobs.now free.old b.maps.now) (moves_within b.counts.now distances b.x.0 (tables_of pages.old b.jobs.now free.old b.maps.now) room) }
+    ensures pairs { let b = board.entry in (distances : List ℕ) → b.order.now ≡ near_others (length b.counts.now) distances b.x.0 → room ≡ length out.old → out.new ≡ pairs_after out.old (moves_within b.counts.now distances b.x.0 (tables_of pages.old b.jobs.now free.old b.maps.now) room) }
+    ensures kept { let b = board.entry in Hints b.counts.now pages.new hints.new }
 {
-    if !goals::all_go(counts, starts, order, pages, jobs, free, maps, x) {
+    if !goals::all_go(board, pages, free) {
         return Err(Refusal::NowhereToGo);
     }
-    let n = x.0 as usize;
-    let moves = (counts[n] - free[n]) as usize;
+    let n = board.x.0 as usize;
+    let moves = (board.counts[n] - free[n]) as usize;
     if room < 2 * moves {
         return Err(Refusal::OutputTooShort);
     }
-    moving::move_all(
-        counts, starts, hints, order, pages, jobs, free, maps, x, out,
-    );
+    moving::move_all(board, hints, pages, free, out);
     Ok(moves as u64)
 }
 
@@ -91,19 +85,15 @@ pub fn drain_at(
     let listed = listing::near(nodes, distances, Mask::all_nodes(nodes), x);
     let order = listed.nodes;
     let len = listed.len;
-    drain_by(
+    let board = Board {
         counts,
         starts,
-        hints,
-        &order[1..len],
-        pages,
-        jobs,
-        free,
-        maps,
         x,
-        room,
-        out,
-    )
+        order: &order[1..len],
+        jobs,
+        maps,
+    };
+    drain_by(board, hints, pages, free, room, out)
 }
 
 // Drain: every held page of a node is moved, and the pairs of pages are put; or refusal 1, 6, 14, 17 or 11, and nothing is written.

@@ -97,10 +97,10 @@ pub all_nodes-requires : goal.all_nodes-requires
 all_nodes-requires c = let tables : Tables = tables_of c.args.pages.now c.args.jobs.now c.args.free.now c.args.maps.now in
     (paged_are c.args.counts.now c.args.distances.now tables c.requires.0 c.requires.1).few
 
-pub slice_bounds-drain_by-count : goal.slice_bounds-drain_by-count
-slice_bounds-drain_by-count c = some_listed (length c.args.counts.now) c.args.distances.now c.args.node c.if-node-nodes.false
-    (listed (goal.at.slice_bounds-drain_by-count c).After-near-listed)
+pub slice_bounds-board-count : goal.slice_bounds-board-count
+slice_bounds-board-count c = some_listed (length c.args.counts.now) c.args.distances.now c.args.node c.if-node-nodes.false
+    (listed (goal.at.slice_bounds-board-count c).After-near-listed)
 
-pub slice_bounds-drain_by-start : goal.slice_bounds-drain_by-start
-slice_bounds-drain_by-start c = some_listed (length c.args.counts.now) c.args.distances.now c.args.node c.if-node-nodes.false
-    (listed (goal.at.slice_bounds-drain_by-start c).After-near-listed)
+pub slice_bounds-board-start : goal.slice_bounds-board-start
+slice_bounds-board-start c = some_listed (length c.args.counts.now) c.args.distances.now c.args.node c.if-node-nodes.false
+    (listed (goal.at.slice_bounds-board-start c).After-near-listed)

@@ -14,28 +14,28 @@ use Rattle.drain.proofs.goals.all_go.Goals as goal
 
 pub all_pass-requires : goal.all_pass-requires
 all_pass-requires c = let d = c.requires.1 in
-    let most = free_few (start_reached c.args.counts.now [] c.args.x.0 (tables_of c.args.pages.now [] c.args.free.now []) d.matches) d.paged.pages in
-    let long = part_long d.paged c.args.x.0 d.ordered.node in
-    let end = node_end c.args.counts.now c.args.x.0 in
+    let most = free_few (start_reached c.args.board.counts.now [] c.args.board.x.0 (tables_of c.args.pages.now [] c.args.free.now []) d.matches) d.paged.pages in
+    let long = part_long d.paged c.args.board.x.0 d.ordered.node in
+    let end = node_end c.args.board.counts.now c.args.board.x.0 in
     rw c.copy_from_slice.ensures.after (c.requires.0, d.ordered, omega (arith, most, long, end, d.paged.pages))
 
 pub returns : goal.returns
 returns c distances e = let d = c.requires.1 in
-    let tables : Tables = tables_of c.args.pages.now c.args.jobs.now c.args.free.now c.args.maps.now in
-    let bytes = part_of d.paged c.args.x.0 d.ordered.node in
-    let went = goes_from c.args.counts.now distances c.args.x.0 tables d.paged.few d.ordered.node d.paged.fits bytes
-    (part_long d.paged c.args.x.0 d.ordered.node) (part_byte d.paged c.args.x.0 d.ordered.node) (get_or c.args.counts.now c.args.x.0 0) 0 tables []
-    (omega arith) (start_reached c.args.counts.now distances c.args.x.0 tables d.matches) in
-    let passed : c.all_pass.result ≡ passes (length c.args.counts.now) (near_others (length c.args.counts.now) distances c.args.x.0) c.args.jobs.now
-    c.args.maps.now c.args.x.0 c.args.free.now bytes = c.all_pass.ensures
-    ∙ ap₂ (λ (o f : List ℕ). passes (length c.args.counts.now) o c.args.jobs.now c.args.maps.now c.args.x.0 f bytes) e c.copy_from_slice.ensures.after in
+    let tables : Tables = tables_of c.args.pages.now c.args.board.jobs.now c.args.free.now c.args.board.maps.now in
+    let bytes = part_of d.paged c.args.board.x.0 d.ordered.node in
+    let went = goes_from c.args.board.counts.now distances c.args.board.x.0 tables d.paged.few d.ordered.node d.paged.fits bytes
+    (part_long d.paged c.args.board.x.0 d.ordered.node) (part_byte d.paged c.args.board.x.0 d.ordered.node) (get_or c.args.board.counts.now c.args.board.x.0 0) 0 tables []
+    (omega arith) (start_reached c.args.board.counts.now distances c.args.board.x.0 tables d.matches) in
+    let passed : c.all_pass.result ≡ passes (length c.args.board.counts.now) (near_others (length c.args.board.counts.now) distances c.args.board.x.0) c.args.board.jobs.now
+    c.args.board.maps.now c.args.board.x.0 c.args.free.now bytes = c.all_pass.ensures
+    ∙ ap₂ (λ (o f : List ℕ). passes (length c.args.board.counts.now) o c.args.board.jobs.now c.args.board.maps.now c.args.board.x.0 f bytes) e c.copy_from_slice.ensures.after in
     rw passed went
 
 pub slice_bounds-all_pass-count : goal.slice_bounds-all_pass-count
-slice_bounds-all_pass-count c = (inside c.requires.1.paged c.args.x.0 c.requires.1.ordered.node).0
+slice_bounds-all_pass-count c = (inside c.requires.1.paged c.args.board.x.0 c.requires.1.ordered.node).0
 
 pub slice_bounds-all_pass-start : goal.slice_bounds-all_pass-start
-slice_bounds-all_pass-start c = (inside c.requires.1.paged c.args.x.0 c.requires.1.ordered.node).0
+slice_bounds-all_pass-start c = (inside c.requires.1.paged c.args.board.x.0 c.requires.1.ordered.node).0
 
 pub slice_bounds-all_pass-end : goal.slice_bounds-all_pass-end
-slice_bounds-all_pass-end c = (inside c.requires.1.paged c.args.x.0 c.requires.1.ordered.node).1
+slice_bounds-all_pass-end c = (inside c.requires.1.paged c.args.board.x.0 c.requires.1.ordered.node).1

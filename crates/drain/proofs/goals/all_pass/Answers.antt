@@ -2,29 +2,30 @@
 -- Assumes nothing.
 use mathlib.Core.Path.{refl, sym, ◌∙◌}
 use native.Mathlib.Omega.{arith}
+use lib.ListN.{length}
 use Rattle.drain.proofs.Open.{none_met}
 use Rattle.drain.proofs.Passes.{AfterPage, after_page, pass_end}
 use Rattle.drain.proofs.goals.all_pass.Goals as goal
 
 pub loop-byte-init : goal.loop-byte-init
-loop-byte-init c = (c.requires.1, none_met c.args.nodes c.args.order.now c.args.jobs.now c.args.maps.now c.args.free.now, omega arith, refl)
+loop-byte-init c = (c.requires.1, none_met (length c.args.board.counts.now) c.args.board.order.now c.args.board.jobs.now c.args.board.maps.now c.args.free.now, omega arith, refl)
 
 pub returns-then-not-pass : goal.returns-then-not-pass
-returns-then-not-pass c = let after : AfterPage c.args.nodes c.args.order.now c.args.jobs.now c.args.maps.now c.args.x.0 c.args.part.now c.loop-byte.byte-index
+returns-then-not-pass c = let after : AfterPage (length c.args.board.counts.now) c.args.board.order.now c.args.board.jobs.now c.args.board.maps.now c.args.board.x.0 c.args.part.now c.loop-byte.byte-index
     c.loop-byte.free c.pass.new.free c.pass.result = let e = c.pass.ensures in
-    after_page c.args.nodes c.args.order.now c.args.jobs.now c.args.maps.now c.args.x.0 c.args.part.now c.loop-byte.byte-index c.loop-byte.free _ c.pass.result
+    after_page (length c.args.board.counts.now) c.args.board.order.now c.args.board.jobs.now c.args.board.maps.now c.args.board.x.0 c.args.part.now c.loop-byte.byte-index c.loop-byte.free _ c.pass.result
     c.loop-byte-test.true c.loop-byte.invariant.0 e.stays e.stuck e.goes in
     sym (sym c.loop-byte.invariant.3 ∙ after.stopped (c.if-not-pass.true))
 
 pub loop-byte-preserved : goal.loop-byte-preserved
-loop-byte-preserved c = let after : AfterPage c.args.nodes c.args.order.now c.args.jobs.now c.args.maps.now c.args.x.0 c.args.part.now c.loop-byte.byte-index
+loop-byte-preserved c = let after : AfterPage (length c.args.board.counts.now) c.args.board.order.now c.args.board.jobs.now c.args.board.maps.now c.args.board.x.0 c.args.part.now c.loop-byte.byte-index
     c.loop-byte.free c.pass.new.free c.pass.result = let e = c.pass.ensures in
-    after_page c.args.nodes c.args.order.now c.args.jobs.now c.args.maps.now c.args.x.0 c.args.part.now c.loop-byte.byte-index c.loop-byte.free _ c.pass.result
+    after_page (length c.args.board.counts.now) c.args.board.order.now c.args.board.jobs.now c.args.board.maps.now c.args.board.x.0 c.args.part.now c.loop-byte.byte-index c.loop-byte.free _ c.pass.result
     c.loop-byte-test.true c.loop-byte.invariant.0 e.stays e.stuck e.goes in
     let r = c.if-not-pass.false in
     let w = after in
     (w.ordered r, c.pass.ensures.kept, omega (arith, w.counted r, c.loop-byte.invariant.2), sym (w.went r) ∙ c.loop-byte.invariant.3)
 
 pub returns : goal.returns
-returns c = sym (pass_end c.args.nodes c.args.order.now c.args.jobs.now c.args.maps.now c.args.x.0 c.args.part.now c.loop-byte.byte-index c.loop-byte.free
+returns c = sym (pass_end (length c.args.board.counts.now) c.args.board.order.now c.args.board.jobs.now c.args.board.maps.now c.args.board.x.0 c.args.part.now c.loop-byte.byte-index c.loop-byte.free
     c.loop-byte-test.false) ∙ c.loop-byte.invariant.3

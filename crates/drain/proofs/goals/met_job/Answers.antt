@@ -1,6 +1,7 @@
 -- `goals::met_job` meets its contract.
 -- Assumes nothing.
 use Prim.Native.Nat.{◌-◌}
+use lib.ListN.{length}
 use Rattle.drain.specs.Goals.{may_move}
 use Rattle.drain.proofs.Open.{some_if, kept_first}
 use Rattle.drain.proofs.goals.met_job.Goals as goal
@@ -11,5 +12,5 @@ returns-in-Some c order free m = m.kept c.args.byte c.in-Some.job c.in-Some.is
 
 -- it is met now, and may be moved
 pub returns : goal.returns
-returns c order free m = let s = some_if (may_move c.args.nodes c.args.jobs.now c.args.maps.now (c.args.byte - 1)) c.in_ok-limit.ensures in
+returns c order free m = let s = some_if (may_move (length c.args.board.counts.now) c.args.board.jobs.now c.args.board.maps.now (c.args.byte - 1)) c.in_ok-limit.ensures in
     kept_first s.0 s.1

@@ -8,7 +8,7 @@ use Rattle.drain.proofs.moving.move_all.Goals as goal
 
 pub loop-page-init : goal.loop-page-init
 loop-page-init c = let d = c.requires.maps_value.1 in
-    (none_gone d (first_is d.paged c.args.x.0 d.ordered.node), none_met _ _ _ _ _, c.requires.maps_value.2)
+    (none_gone d (first_is d.paged c.args.board.x.0 d.ordered.node), none_met _ _ _ _ _, c.requires.maps_value.2)
 
 pub move_at-at-requires : goal.move_at-at-requires
 move_at-at-requires c = let d = c.requires.maps_value.1 in
@@ -19,7 +19,7 @@ move_at-at-requires c = let d = c.requires.maps_value.1 in
         c.requires.maps_value.0,
         now_drainable d v.0 by.0 by.1 by.2 by.3,
         next_carried d v.0 by.0 by.1 by.2 by.3 inside,
-        omega (arith, inside, v.0.few, node_end c.args.counts.now c.args.x.0, d.paged.pages),
+        omega (arith, inside, v.0.few, node_end c.args.board.counts.now c.args.board.x.0, d.paged.pages),
       );
       met = (v.1, v.2);
     }
@@ -37,6 +37,6 @@ loop-page-preserved c = let d = c.requires.maps_value.1 in
 pub returns : goal.returns
 returns c = let d = c.requires.maps_value.1 in
     let v = c.loop-page.invariant in record {
-      moved = all_gone d v.0 (omega (arith, v.0.to, end_is d.paged c.args.x.0 d.ordered.node, c.loop-page-test.false));
+      moved = all_gone d v.0 (omega (arith, v.0.to, end_is d.paged c.args.board.x.0 d.ordered.node, c.loop-page-test.false));
       kept = v.2;
     }
