@@ -1,6 +1,6 @@
 -- What a journal's run does to the tables and answers is the book's run of its calls.
 -- Assumes nothing.
-use Prim.Native.Nat.{ℕ, zero, suc, ◌+◌, ◌*◌, ◌/◌, ◌≤◌, ◌<◌}
+use Prim.Native.Nat.{ℕ, zero, suc, ◌+◌, ◌-◌, ◌*◌, ◌/◌, ◌≤◌, ◌<◌}
 use mathlib.Core.Path.{◌≡◌, refl, sym, ap, ◌∙◌}
 use mathlib.Core.Bool.{Bool, true, false, cond}
 use mathlib.Core.List.{List, [], ◌∷◌, ◌++◌, map, append_assoc, append-nil}
@@ -21,7 +21,13 @@ use Rattle.rules.proofs.FreeCounts.{all_free}
 use Rattle.rules.proofs.AsBefore.{answers_as_before}
 use Rattle.journal.specs.Parts.{answer_size, run_of, is_ready, ran, answer_to, one_record, after, part_from, put_into, on_part}
 use Rattle.journal.specs.BookRun.{records_from, records_in, past, calls, answer_lines, book_lines, ending, book_run, uncounted_run, meets_damage, book_part}
-use Rattle.journal.proofs.Records.{short_left, short_damaged, good_record, damage}
+use Rattle.std.specs.Prelude.{Option, Some, None}
+use Rattle.rules.specs.Records.{places_per_job}
+use Rattle.rules.specs.Journal.{part}
+use Rattle.journal.specs.declared.record.Entry.{Entry as Read}
+use Rattle.journal.specs.Reads.{Reads}
+use Rattle.journal.proofs.Output.{rest_lent}
+use Rattle.journal.proofs.Records.{short_left, short_damaged, good_record, damage, is_good, is_damaged}
 use Rattle.journal.proofs.Answers.{answer_length, fault_length, enough, run_next, run_damaged}
 use Rattle.journal.proofs.Parts.{done, part_waits}
 
@@ -115,6 +121,15 @@ module _ {input : List ℕ} {size at : ℕ} (done : Counted input size at) where
   pub counted_all : length input ≤ at → (m : Machine) (t : Tables) → size ≡ length (run_of m t input)
   unfolding run_from
   counted_all l m t = omega (arith, rw (drop_of_length-le input l) at (done.rest m t))
+
+  -- So with what the code reads of the bytes from `at` on.
+  module _ {r : Option Read} (read : Reads r (part 16 places_per_job (take (length input - at) (drop at input)))
+      (read_record (take (length input - at) (drop at input)))) where
+    pub counted_good : {e : Read} → r ≡ Some e → Counted input (size + answer_size) (at + e.size) × (32 ≤ e.size)
+    counted_good is = let good = is_good _ is (rw (rest_lent input at) at read) in (counted_next good.is, (good_record _ good.is).least)
+
+    pub counted_damaged : r ≡ None → at < length input → (m : Machine) (t : Tables) → size + answer_size ≡ length (run_of m t input)
+    counted_damaged is l = counted_last l (is_damaged _ is (rw (rest_lent input at) at read))
 
 -- ---- a part
 

@@ -1,17 +1,17 @@
 -- The laws of "numbers little-endian", over how many bytes there are.
 -- Assumes nothing.
-use Prim.Native.Nat.{ℕ, zero, suc, ◌+◌, ◌*◌, ◌%◌, ◌^◌, ◌≤◌, ◌<◌, min}
-use mathlib.Core.Path.{◌≡◌, refl, sym, ap, ap₂}
+use Prim.Native.Nat.{ℕ, zero, suc, ◌+◌, ◌*◌, ◌/◌, ◌%◌, ◌^◌, ◌≤◌, ◌<◌, min}
+use mathlib.Core.Path.{◌≡◌, refl, sym, ap, ◌∙◌}
 use mathlib.Core.List.{List, [], ◌∷◌, ◌++◌}
 use native.Mathlib.Nat.{mul_assoc}
 use native.Mathlib.Omega.{arith}
 use borrow.Author.Tests.{leb-true, le-leb}
-use lib.Bits.{bit_or, or_shifted_r}
 use lib.ListN.{length, get_or, take, drop, length-take, length-drop}
-use lib.Pow.{pow-add, shl_exact}
+use lib.Pow.{pow-add}
 use lib.Dec.{leb}
-use lib.Seq.{take-add, take-take, drop-drop, drop-cons}
-use Rattle.rules.specs.Records.{from_bytes}
+use lib.Seq.{take-add, take-take, take_all, take-suc, drop-drop, length-take-le}
+use Rattle.std.specs.Int.{w32, byte_worth, sum_through, to_le_bytes}
+use Rattle.rules.specs.Records.{bytes_of, from_bytes}
 use Rattle.rules.specs.Journal.{part, number}
 use Rattle.rules.proofs.Lists.{same_test}
 
@@ -61,24 +61,37 @@ pub number_take : (w k n : ℕ) (bs : List ℕ) → k + n ≤ w → number k n (
 unfolding number
 number_take w k n bs h = ap from_bytes (part_take w k n bs h)
 
--- ---- numbers by halves
+-- ---- numbers as std makes them
 
--- the number of one byte is the byte
-pub number_one : (k : ℕ) (bs : List ℕ) → k < length bs → number k 1 bs ≡ get_or bs k 0
-unfolding number part from_bytes
-number_one k bs h = rw (drop-cons bs k 0) (omega arith)
+-- 256 ^ n in bits
+byte_power : (n : ℕ) → 2 ^ (8 * n) ≡ 256 ^ n
+byte_power zero = refl
+byte_power (suc n) =
+    let e : 8 * suc n ≡ 8 * n + 8 = omega arith in
+    rw (e, pow-add 2 (8 * n) 8, byte_power n) (omega arith)
 
--- a number of 2 n bytes is its lower n bytes and, shifted above them, its higher n bytes
-pub two_halves : (k n : ℕ) (bs : List ℕ) {low high : ℕ} → low < 2 ^ (8 * n) → high < 2 ^ (8 * n) → k + n ≤ length bs
-    → low ≡ number k n bs → high ≡ number (k + n) n bs
-    → bit_or low ((high * 2 ^ (8 * n)) % 2 ^ (8 * n + 8 * n)) ≡ number k (n + n) bs
+-- the worth of each byte, summed up
+worths : (xs : List ℕ) (n : ℕ) → n < length xs → sum_through (λ i. byte_worth i (get_or xs i 0)) n ≡ from_bytes (take (suc n) xs)
+unfolding from_bytes
+worths [] zero h = absurd (omega arith)
+worths (x ∷ xs) zero h = omega arith
+worths xs (suc n) h =
+    let all : take (suc (suc n)) xs ≡ take (suc n) xs ++ (get_or xs (suc n) 0 ∷ []) = take-suc xs (suc n) 0 h in
+    let size : length (take (suc n) xs) ≡ suc n = length-take-le (suc n) xs (omega arith) in
+    rw (all, from_append (take (suc n) xs) (get_or xs (suc n) 0 ∷ []), size, byte_power (suc n), worths xs n (omega arith)) (omega arith)
+
+-- the number of the suc n bytes at a place
+pub number_le : (k n : ℕ) (bs : List ℕ) → k + suc n ≤ length bs
+    → sum_through (λ i. byte_worth i (get_or (part k (suc n) bs) i 0)) n ≡ number k (suc n) bs
 unfolding number
-two_halves k n bs {low} {high} hl hh inside el eh =
-    rw (
-      shl_exact (8 * n) (8 * n) (8 * n + 8 * n) hh (omega arith),
-      or_shifted_r high (8 * n) low hl,
-      part_add k n n bs,
-      from_append (part k n bs) (part (k + n) n bs),
-      part_length k n bs inside,
-    )
-    (ap₂ (λ (x y : ℕ). x * 2 ^ (8 * n) + y) eh el)
+number_le k n bs h =
+    let size : length (part k (suc n) bs) ≡ suc n = part_length k (suc n) bs h in
+    worths (part k (suc n) bs) n (omega (arith, size)) ∙ ap from_bytes (take_all (suc n) (part k (suc n) bs) (omega (arith, size)))
+
+-- the four bytes of a number
+pub bytes_le : (n : ℕ) → to_le_bytes w32 n ≡ bytes_of 4 n
+unfolding bytes_of
+bytes_le n =
+    let third : n / 256 ^ 2 % 256 ≡ n / 256 / 256 % 256 = omega arith in
+    let fourth : n / 256 ^ 3 % 256 ≡ n / 256 / 256 / 256 % 256 = omega arith in
+    rw (third, fourth)

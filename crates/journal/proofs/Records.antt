@@ -2,10 +2,12 @@
 -- Assumes nothing.
 use Prim.Native.Nat.{ℕ, zero, suc, ◌+◌, ◌-◌, ◌≤◌, ◌<◌}
 use mathlib.Core.Path.{◌≡◌, refl, sym, ap, subst, ◌∙◌}
-use mathlib.Core.Bool.{Bool, true, false, cond}
+use mathlib.Core.Bool.{Bool, true, false}
 use mathlib.Core.List.{List, [], ◌∷◌, ◌++◌}
 use native.Mathlib.Nat.{add-zero}
 use native.Mathlib.Omega.{arith}
+use Rattle.std.specs.Prelude.{Option, Some, None}
+use Rattle.std.specs.Bool.{then_some}
 use borrow.Author.Tests.{leb-true, lt-leb, eqb-true}
 use lib.Dec.{leb, eqb}
 use lib.ListN.{length, take, replicate, get_or-append, length-append, length-take, length-replicate}
@@ -21,8 +23,7 @@ use Rattle.rules.proofs.Filled.{equal_take}
 use Rattle.rules.proofs.Lists.{both_true}
 use Rattle.book.specs.declared.Call.{Call}
 use Rattle.book.specs.Says.{Listed, Says}
-use Rattle.journal.specs.declared.record.Reading.{Reading}
-use Rattle.journal.specs.declared.record.Reading.TheVariants.{Entry as Read, Damaged}
+use Rattle.journal.specs.declared.record.Entry.{Entry as Read}
 use Rattle.journal.specs.Reads.{Good, Reads, zeroed}
 use Rattle.journal.specs.Parts.{is_whole}
 use Rattle.journal.proofs.Numbers.{part_length, long_take, part_take, number_take}
@@ -77,28 +78,29 @@ module _ (bs : List ℕ) where
       go false = refl
 
   -- a known kind: the call in it, or an unused byte that is not zero
-  pub known_read : {kind : Kind} {size : ℕ} {good : Bool} {law : LawCall} {r : Reading} (call : Call) → (is_whole bs ≡ true) × (marked bs ≡ true)
-      → kind_of (byte_at bs 2) ≡ kind → size ≡ size_of (kind_of (byte_at bs 2)) → good ≡ unused_bytes_zero kind bs → call_in kind bs ≡ accept law
-      → (unused_bytes_zero kind bs ≡ true → Says call (part 16 places_per_job bs) [] law) → r ≡ cond good (Read (byte_at bs 2) size call) Damaged
-      → Reads r (part 16 places_per_job bs) (read_record bs)
+  pub known_read : {kind : Kind} {size : ℕ} {good : Bool} {law : LawCall} {r : Option Read} {p : Call × Bool} (call : Call)
+      → (is_whole bs ≡ true) × (marked bs ≡ true) → kind_of (byte_at bs 2) ≡ kind → size ≡ size_of (kind_of (byte_at bs 2))
+      → p ≡ (call, good) → good ≡ unused_bytes_zero kind bs → call_in kind bs ≡ accept law
+      → (unused_bytes_zero kind bs ≡ true → Says call (part 16 places_per_job bs) [] law)
+      → r ≡ then_some p.1 (record { kind = byte_at bs 2; size = size; call = p.0 }) → Reads r (part 16 places_per_job bs) (read_record bs)
   unfolding is_whole read_record
-  known_read {kind} {size} {good} {law} call t k s g c says d =
+  known_read {kind} {size} {good} {law} call t k s is g c says d =
       let read : read_record bs ≡ unless good 13 (accept (record { kind = byte_at bs 2; size = size; call = law })) = rw (t.0, t.1, s, k, c, sym g) in
-      rw (d, read) (go good g)
+      rw (d, is, read) (go good g)
     where
       go : (ok : Bool) → ok ≡ unused_bytes_zero kind bs
-          → Reads (cond ok (Read (byte_at bs 2) size call) Damaged) (part 16 places_per_job bs)
+          → Reads (then_some ok (record { kind = byte_at bs 2; size = size; call = call })) (part 16 places_per_job bs)
           (unless ok 13 (accept (record { kind = byte_at bs 2; size = size; call = law })))
       go true f = record { law = law; says = says (sym f); is = refl }
       go false f = refl
 
 -- what is read is good, or it is damaged
-pub is_good : {r : Reading} {kind size : ℕ} (call : Call) (places : List ℕ) {d : Decision Entry} → r ≡ Read kind size call → Reads r places d
-    → Good kind size call places d
-is_good call places {d} e h = subst (λ (r : Reading). Reads r places d) e h
+pub is_good : {r : Option Read} {e : Read} (places : List ℕ) {d : Decision Entry} → r ≡ Some e → Reads r places d
+    → Good e.kind e.size e.call places d
+is_good places {d} e h = subst (λ (r : Option Read). Reads r places d) e h
 
-pub is_damaged : {r : Reading} (places : List ℕ) {d : Decision Entry} → r ≡ Damaged → Reads r places d → d ≡ refuse 13
-is_damaged places {d} e h = subst (λ (r : Reading). Reads r places d) e h
+pub is_damaged : {r : Option Read} (places : List ℕ) {d : Decision Entry} → r ≡ None → Reads r places d → d ≡ refuse 13
+is_damaged places {d} e h = subst (λ (r : Option Read). Reads r places d) e h
 
 -- ---- the places of an install
 

@@ -1,6 +1,6 @@
 // Answers of twelve bytes.
 
-ghost use Rattle.std.specs.Prelude.{◌≡◌, ◌%◌};
+ghost use Rattle.std.specs.Prelude.{◌≡◌};
 ghost use Rattle.rules.specs.Calls.{numbers};
 ghost use Rattle.rules.specs.Journal.{answer_bytes, faulty};
 ghost use Rattle.rules.specs.Answers.{number_of, answer_of};
@@ -10,23 +10,12 @@ use rules::{Answer, Refusal};
 // "Answers are 12 bytes"
 pub const ANSWER_SIZE: usize = 12;
 
-// The lowest byte of a number.
-fn low(x: u32) -> u8
-    ensures { result ≡ x % 256 }
-{
-    (x % 256) as u8
-}
-
 // "mark 4E 41, kind, refusal, node or FF, three zeros, 32-bit page or FFFFFFFF"
 pub fn line(kind: u8, answer: Answer) -> [u8; ANSWER_SIZE]
     ensures { result ≡ answer_bytes kind (numbers (answer_of answer)) }
 {
     let n = answer.numbers();
-    let page = n.page;
-    let b0 = low(page);
-    let b1 = low(page / 256);
-    let b2 = low(page / 256 / 256);
-    let b3 = low(page / 256 / 256 / 256);
+    let [b0, b1, b2, b3] = n.page.to_le_bytes();
     [0x4E, 0x41, kind, n.refusal, n.node, 0, 0, 0, b0, b1, b2, b3]
 }
 

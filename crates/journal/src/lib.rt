@@ -51,10 +51,8 @@ pub fn identity_maps(nodes: usize) -> [u8; MAP_BYTES * MOST_JOBS]
     ensures { result ≡ identity_maps nodes most_jobs }
 {
     let mut maps = [NO_NODE; MAP_BYTES * MOST_JOBS];
-    let mut i = 0;
-    while i < MAP_BYTES * MOST_JOBS {
-        maps[i] = identity_entry(nodes, i % MAP_BYTES);
-        i += 1;
+    for (i, entry) in maps.iter_mut().enumerate() {
+        *entry = identity_entry(nodes, i % MAP_BYTES);
     }
     maps
 }

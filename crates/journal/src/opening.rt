@@ -51,10 +51,8 @@ pub fn page_counts(bytes: &[u8]) -> [u32; 16]
 {
     let mut counts = [0u32; 16];
     let n = byte_at(bytes, 3);
-    let mut i = 0;
-    while i < n {
-        counts[i] = u16_at(bytes, 6 + 2 * i) as u32;
-        i += 1;
+    for (i, count) in counts[..n].iter_mut().enumerate() {
+        *count = u32::from(u16_at(bytes, 6 + 2 * i));
     }
     counts
 }

@@ -1,7 +1,7 @@
 // Numbers and marks in bytes: "numbers little-endian".
 
 ghost use Rattle.std.specs.Prelude.{◌≡◌, ◌+◌, ◌≤◌, ◌<◌, length};
-ghost use Rattle.rules.specs.Journal.{byte_at, number, marked};
+ghost use Rattle.rules.specs.Journal.{byte_at, number, part, marked};
 
 // "mark 4E 50": the first two bytes.
 pub fn marked(bytes: &[u8]) -> bool
@@ -19,32 +19,36 @@ pub fn byte_at(bytes: &[u8], at: usize) -> usize
     bytes[at] as usize
 }
 
+// The N bytes at a place.
+pub fn part<const N: usize>(bytes: &[u8], at: usize) -> [u8; N]
+    requires { at + N ≤ length bytes.now }
+    ensures { result ≡ part at N bytes.now }
+{
+    let mut part = [0; N];
+    part.copy_from_slice(&bytes[at..at + N]);
+    part
+}
+
 // The 16-bit number at a place.
 pub fn u16_at(bytes: &[u8], at: usize) -> u16
     requires { at + 2 ≤ length bytes.now }
     ensures { result ≡ number at 2 bytes.now }
 {
-    let low = bytes[at] as u16;
-    let high = bytes[at + 1] as u16;
-    low | (high << 8)
+    u16::from_le_bytes(part(bytes, at))
 }
 
-// The 32-bit number at a place: its lower half, then its higher half.
+// The 32-bit number at a place.
 pub fn u32_at(bytes: &[u8], at: usize) -> u32
     requires { at + 4 ≤ length bytes.now }
     ensures { result ≡ number at 4 bytes.now }
 {
-    let low = u16_at(bytes, at) as u32;
-    let high = u16_at(bytes, at + 2) as u32;
-    low | (high << 16)
+    u32::from_le_bytes(part(bytes, at))
 }
 
-// The 64-bit number at a place: its lower half, then its higher half.
+// The 64-bit number at a place.
 pub fn u64_at(bytes: &[u8], at: usize) -> u64
     requires { at + 8 ≤ length bytes.now }
     ensures { result ≡ number at 8 bytes.now }
 {
-    let low = u32_at(bytes, at) as u64;
-    let high = u32_at(bytes, at + 4) as u64;
-    low | (high << 32)
+    u64::from_le_bytes(part(bytes, at))
 }

@@ -1,20 +1,21 @@
 // A record: whether it is there to its end, and the call in it.
 
-ghost use Rattle.std.specs.Prelude.{◌≡◌, ◌&&◌, cond, ◌+◌, ◌-◌, ◌≤◌, ◌<◌, length};
+ghost use Rattle.std.specs.Prelude.{true, ◌≡◌, ◌&&◌, ◌+◌, ◌-◌, ◌≤◌, ◌<◌, length};
 ghost use Rattle.rules.specs.Records.{places_per_job};
 ghost use Rattle.rules.specs.Journal.{byte_at, number, part, kind_of, size_of, read_record};
 ghost use Rattle.journal.specs.Reads.{Reads, zeroed};
 ghost use Rattle.journal.specs.Parts.{is_whole};
 
-use super::reading::{byte_at, marked, u32_at, u64_at};
+use super::reading::{byte_at, marked, part, u32_at, u64_at};
 use book::Call;
 use rules::PLACES_PER_JOB;
 
-// What is read of a record. The places of an install are in `places_in`.
+// What is read of a good record. The places of an install are in `places_in`.
 #[derive(Clone, Copy)]
-pub enum Reading {
-    Entry { kind: u8, size: usize, call: Call },
-    Damaged,
+pub struct Entry {
+    pub kind: u8,
+    pub size: usize,
+    pub call: Call,
 }
 
 // No record is shorter: "Then 32-byte records".
@@ -29,7 +30,8 @@ fn size_of(kind: u8) -> usize
 
 // Is the record that the bytes start with there to its end?
 pub fn whole(bytes: &[u8]) -> bool
-    ensures { result ≡ is_whole bytes.now }
+    ensures tells { result ≡ is_whole bytes.now }
+    ensures long { result ≡ true → 32 ≤ length bytes.now }
 {
     if bytes.len() < SHORTEST {
         return false;
@@ -86,55 +88,41 @@ fn install_in(bytes: &[u8]) -> Call
     }
 }
 
-// A record whose unused bytes are zero, or a damaged one.
-fn read_as(kind: u8, size: usize, good: bool, call: Call) -> Reading
-    ensures { result ≡ cond good (Reading.Entry kind size call) Reading.Damaged }
-{
-    if good {
-        return Reading::Entry { kind, size, call };
-    }
-    Reading::Damaged
-}
-
-// The record that the bytes start with: "A bad mark, kind, unused byte or short record" is damage.
-pub fn read_record(bytes: &[u8]) -> Reading
+// The record that the bytes start with: "A bad mark, kind, unused byte or short record" is damage, of which nothing is read.
+pub fn read_record(bytes: &[u8]) -> Option<Entry>
     ensures { Reads result (part 16 places_per_job bytes.now) (read_record bytes.now) }
 {
-    if bytes.len() < SHORTEST {
-        return Reading::Damaged;
-    }
-    let kind = bytes[2];
-    let size = size_of(kind);
-    if bytes.len() < size {
-        return Reading::Damaged;
+    if !whole(bytes) {
+        return None;
     }
     if !marked(bytes) {
-        return Reading::Damaged;
+        return None;
     }
+    let kind = bytes[2];
     let job = byte_at(bytes, 3);
-    match kind {
+    let (call, unused) = match kind {
         1 => {
             let cpu = byte_at(bytes, 4);
-            let unused = rest_zero(bytes, 5, 0);
-            read_as(kind, size, unused, Call::Request { job, cpu })
+            (Call::Request { job, cpu }, rest_zero(bytes, 5, 0))
         }
         2 => {
             let page = u32_at(bytes, 8) as usize;
-            let unused = rest_zero(bytes, 4, 4);
-            read_as(kind, size, unused, Call::Release { job, page })
+            (Call::Release { job, page }, rest_zero(bytes, 4, 4))
         }
         3 => {
             let allowed = u64_at(bytes, 8);
             let unused = zero_from(bytes, 0, 4) & places_zero(bytes, 0);
-            read_as(kind, size, unused, Call::Rebind { job, allowed })
+            (Call::Rebind { job, allowed }, unused)
         }
         4 => {
             let unused = (bytes[4] == 0) & places_zero(bytes, byte_at(bytes, 7));
-            read_as(kind, size, unused, install_in(bytes))
+            (install_in(bytes), unused)
         }
-        5 => read_as(kind, size, rest_zero(bytes, 4, 0), Call::Clear { job }),
-        _ => Reading::Damaged,
-    }
+        5 => (Call::Clear { job }, rest_zero(bytes, 4, 0)),
+        _ => return None,
+    };
+    let size = size_of(kind);
+    unused.then_some(Entry { kind, size, call })
 }
 
 // "places in 16-31"
@@ -142,7 +130,5 @@ pub fn places_in(bytes: &[u8]) -> [u8; PLACES_PER_JOB]
     requires { 32 ≤ length bytes.now }
     ensures { result ≡ part 16 places_per_job bytes.now }
 {
-    let mut places = [0u8; PLACES_PER_JOB];
-    rules::copy(&bytes[16..32], &mut places);
-    places
+    part(bytes, 16)
 }

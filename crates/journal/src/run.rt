@@ -13,13 +13,14 @@ ghost use Rattle.journal.specs.Passes.{passed};
 use super::answer::{ANSWER_SIZE, fault, line};
 use super::opening::{cpu_bytes, distance_bytes, page_counts};
 use super::reading::byte_at;
-use super::record::{Reading, places_in, read_record, whole};
+use super::record::{places_in, read_record, whole};
 use book;
 use machine;
 use placement::hinting::HINTS;
 use rules::{MOST_NODES, Refusal};
 
-// What a part of a run comes to: the bytes of the records that it did and those of their answers, and whether the run goes on.
+// What a part of a run comes to: the bytes of the records that it did and those of their answers, and whether the run goes on. All three
+// hold at damage too, so no `Option` stands for the last one.
 #[derive(Clone, Copy)]
 pub struct Part {
     pub read: usize,
@@ -45,9 +46,8 @@ fn run_record(
     ensures did { passed result (tables_of pages.new jobs.new free.new maps.new) output.new ≡ put_into output.old (one_record (machine_of counts.now cpus.now distances.now) (tables_of pages.old jobs.old free.old maps.old) input.now) }
     ensures kept { Hints counts.now pages.new hints.new }
 {
-    let read = read_record(input);
-    match read {
-        Reading::Entry { kind, size, call } => {
+    match read_record(input) {
+        Some(entry) => {
             let places = places_in(input);
             let answer = book::perform(
                 counts,
@@ -59,18 +59,18 @@ fn run_record(
                 jobs,
                 free,
                 maps,
-                call,
+                entry.call,
                 places,
                 &input[..0],
             );
-            let bytes = line(kind, answer);
+            let bytes = line(entry.kind, answer);
             Part {
-                read: size,
+                read: entry.size,
                 written: rules::copy(&bytes, output),
                 more: true,
             }
         }
-        Reading::Damaged => {
+        None => {
             let bytes = fault(Refusal::DamagedJournal);
             Part {
                 read: 0,
@@ -108,6 +108,7 @@ fn run_records(
 {
     let mut at = 0;
     let mut written = 0;
+    // A walk by the records' sizes, which no range or slice counts.
     while ready(&input[at..], ended) & (ANSWER_SIZE <= output.len() - written) {
         let one = run_record(
             counts,
@@ -127,14 +128,14 @@ fn run_records(
         if !one.more {
             return Part {
                 read: at,
-                written: written,
+                written,
                 more: false,
             };
         }
     }
     Part {
         read: at,
-        written: written,
+        written,
         more: true,
     }
 }
@@ -172,20 +173,12 @@ pub fn answers_size(input: &[u8]) -> usize
 {
     let mut at = 0;
     let mut size = 0;
+    // A walk by the records' sizes, which no range or slice counts.
     while at < input.len() {
         size += ANSWER_SIZE;
-        let read = read_record(&input[at..]);
-        match read {
-            Reading::Entry {
-                kind: _,
-                size: bytes,
-                call: _,
-            } => {
-                at += bytes;
-            }
-            Reading::Damaged => {
-                return size;
-            }
+        match read_record(&input[at..]) {
+            Some(entry) => at += entry.size,
+            None => return size,
         }
     }
     size

@@ -3,23 +3,26 @@
 use Prim.Native.Nat.{ℕ, zero, suc, ◌+◌, ◌-◌, ◌*◌, ◌/◌, ◌%◌, ◌^◌, ◌≤◌, ◌<◌}
 use mathlib.Core.Path.{◌≡◌, refl, sym, ap, ◌∙◌}
 use mathlib.Core.Bool.{Bool, true, false, ◌&&◌, ◌||◌, cond, and-false, or-false}
-use mathlib.Core.Logic.{⊎_elim}
 use mathlib.Core.List.{List, [], ◌∷◌, ◌++◌, append_assoc}
-use native.Mathlib.Nat.{zero-add, sub-zero, add-sub_cancel_left}
+use native.Mathlib.Nat.{zero-add, add-zero, sub-zero, add-sub_cancel_left}
 use native.Mathlib.Decide.{dec_le}
 use native.Mathlib.Omega.{arith}
 use borrow.Author.Tests.{eq-eqb, ne_eqb, le-leb, lt-leb, le-ltb, lt-ltb}
 use lib.Dec.{eqb, leb, ltb}
 use lib.ListN.{length, get_or, take, drop, replicate, length-append, length-drop, length-replicate}
-use lib.Seq.{take_all, take-append-le, length-take-le, take-take, drop-cons, get_or-append-add, get_or-drop}
+use lib.Seq.{get_or-take, take_all, take-append-le, length-take-le, take-take, drop-cons, get_or-append-add, get_or-drop}
 use Rattle.rules.specs.Basics.{all, each, from, between}
 use Rattle.rules.specs.Records.{bytes_of, places_per_job, policy}
 use Rattle.rules.specs.Decisions.{Decision, refuse, accept, is_accepted, accepted_in}
 use Rattle.rules.specs.Book.{Call, request, release, install, rebind, clear, fresh_table, keep_nodes, set_map, drain}
 use Rattle.rules.specs.Journal.{kind_of}
 use Rattle.rules.proofs.Bytes.{bytes_length, bytes_at}
-use Rattle.rules.proofs.Lists.{both_true, either_true, between_true, all_true, member_from, each_from_suc, all_from_step, all_from_end}
+use Rattle.rules.proofs.Lists.{both_true, all_true, member_from, each_from_suc, all_from_step, all_from_end}
 use Rattle.book.specs.Says.{Named}
+use Rattle.std.specs.Prelude.{Option, Some, None, is_some}
+use Rattle.replay.specs.declared.encoding.Kind.{Kind}
+use Rattle.replay.specs.declared.encoding.Kind.TheVariants.{Request, Release, Rebind, Install, Clear, Fresh, Keep, SetMap, Drain}
+use Rattle.replay.specs.Kinds.{number_of, KindOf}
 use Rattle.replay.specs.Encoding.{call_words, word_at, filled, list_in, call_of, own_call, call_in, words_of, call_count, calls_to, calls_ok}
 
 -- ---- one call
@@ -65,6 +68,23 @@ known_kind call = go (word_at call 0) (dec_le 16 (word_at call 0))
     go k (yes l) = rw (le-ltb k 16 l, lt-leb k 5 (omega arith), and-false (leb 1 k)) (own_kind call k l)
     go k (no l) = rw (lt-ltb k 16 (omega arith), lt-leb 16 k (omega arith), or-false (between 1 5 k)) (journal_kind call k)
 
+-- the number of a kind is known
+kind_among : (k : Kind) → (between 1 5 (number_of k) || between 16 19 (number_of k)) ≡ true
+kind_among Request = refl
+kind_among Release = refl
+kind_among Rebind = refl
+kind_among Install = refl
+kind_among Clear = refl
+kind_among Fresh = refl
+kind_among Keep = refl
+kind_among SetMap = refl
+kind_among Drain = refl
+
+-- a call is known exactly when its first word has a kind
+pub kind_known : (r : Option Kind) (call : List ℕ) → KindOf r (word_at call 0) → is_some r ≡ is_accepted (call_in call)
+kind_known (Some k) call h = sym (known_kind call ∙ ap (λ (w : ℕ). between 1 5 w || between 16 19 w) h ∙ kind_among k)
+kind_known None call h = sym (known_kind call ∙ h)
+
 -- the call of a kind
 module _ (call : List ℕ) (c : Call) (e : call_in call ≡ accept c) where
   of_kind : (k : ℕ) → k < 16 → word_at call 0 ≡ k → call_of (kind_of k) call ≡ accept c
@@ -101,39 +121,20 @@ module _ (call : List ℕ) (c : Call) (e : call_in call ≡ accept c) where
   unfolding call_in own_call
   says_keep s = let q = rw s at e in cc
 
-  -- the word of a known kind is one of these
-  known : (between 1 5 (word_at call 0) || between 16 19 (word_at call 0)) ≡ true
-  known = sym (known_kind call) ∙ ap is_accepted e
-
-  -- what is above it, but for 19, is an administrator's
-  pub says_set : 17 ≤ word_at call 0 → (word_at call 0 ≡ 19 → ⊥) → (word_at call 0 ≡ 17 → ⊥) → c ≡ set_map (word_at call 1) (list_in call)
+  -- 18 is an administrator's
+  pub says_set : word_at call 0 ≡ 18 → c ≡ set_map (word_at call 1) (list_in call)
   unfolding call_in own_call
-  says_set l m n = let q = rw eighteen_is at e in cc
-    where
-      eighteen_is : word_at call 0 ≡ 18
-      eighteen_is =
-          ⊎_elim
-          (λ b. let k = between_true 1 5 (word_at call 0) b in absurd (omega arith))
-          (λ b. let k = between_true 16 19 (word_at call 0) b in omega arith)
-          (either_true known)
+  says_set s = let q = rw s at e in cc
 
   -- 19 is a drain
   pub says_drain : word_at call 0 ≡ 19 → c ≡ drain (word_at call 1) (word_at call 2)
   unfolding call_in own_call
   says_drain s = let q = rw s at e in cc
 
-  -- and what is none of these is a fresh table
-  pub says_fresh : (word_at call 0 ≡ 1 → ⊥) → (word_at call 0 ≡ 2 → ⊥) → (word_at call 0 ≡ 3 → ⊥) → (word_at call 0 ≡ 4 → ⊥) → (word_at call 0 ≡ 5 → ⊥)
-      → word_at call 0 < 17 → c ≡ fresh_table
+  -- 16 is a fresh table
+  pub says_fresh : word_at call 0 ≡ 16 → c ≡ fresh_table
   unfolding call_in own_call
-  says_fresh n₁ n₂ n₃ n₄ n₅ l = let q = rw sixteen_is at e in cc
-    where
-      sixteen_is : word_at call 0 ≡ 16
-      sixteen_is =
-          ⊎_elim
-          (λ b. let k = between_true 1 5 (word_at call 0) b in absurd (omega arith))
-          (λ b. let k = between_true 16 19 (word_at call 0) b in omega arith)
-          (either_true known)
+  says_fresh s = let q = rw s at e in cc
 
 -- a list of so many places has that length
 pub places_length : (call : List ℕ) → length (list_in call) ≡ word_at call 5
@@ -253,6 +254,12 @@ module _ (call : List ℕ) (h : length call ≡ call_words) where
 -- the part of the words from 16 * i to 16 more is call i's
 pub part_words : (words : List ℕ) (i : ℕ) → take (call_words * i + call_words - call_words * i) (drop (call_words * i) words) ≡ words_of words i
 part_words words i = ap (λ (n : ℕ). take n (drop (call_words * i) words)) (add-sub_cancel_left (call_words * i) call_words)
+
+-- its first word is the one there
+pub first_word : (words : List ℕ) (i : ℕ) → word_at (words_of words i) 0 ≡ get_or words (call_words * i) 0
+first_word words i =
+    get_or-take call_words (drop (call_words * i) words) 0 0 (omega arith) ∙ get_or-drop (call_words * i) words 0 0
+    ∙ ap (λ (k : ℕ). get_or words k 0) (add-zero (call_words * i))
 
 -- it is whole
 pub words_whole : (words : List ℕ) (i : ℕ) → i < call_count words → length (words_of words i) ≡ call_words

@@ -1,3 +1,4 @@
 pub mod Encoding
+pub mod Kinds
 pub mod Replay
 pub mod Examples

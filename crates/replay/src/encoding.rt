@@ -1,14 +1,15 @@
 // A call as sixteen words, and an answer as one.
 
-ghost use Rattle.std.specs.Prelude.{List, ◌≡◌, ℕ, ◌≤◌, length, drop};
+ghost use Rattle.std.specs.Prelude.{◌≡◌, length, drop, IsSomeAnd};
 ghost use Rattle.rules.specs.Basics.{each};
 ghost use Rattle.rules.specs.Records.{bytes_of};
 ghost use Rattle.rules.specs.Maps.{map_size};
 ghost use Rattle.rules.specs.Answers.{answer_of};
 ghost use Rattle.rules.specs.Book.{Call as LawCall};
-ghost use Rattle.rules.specs.Decisions.{accept, is_accepted};
+ghost use Rattle.rules.specs.Decisions.{accept};
 ghost use Rattle.book.specs.Says.{Says};
 ghost use Rattle.replay.specs.Encoding.{call_words, word_at, filled, list_in, call_in, calls_ok, answer_word};
+ghost use Rattle.replay.specs.Kinds.{KindOf};
 
 use book::Call;
 use records::words;
@@ -17,6 +18,9 @@ use rules::{Answer, MAP_BYTES, PLACES_PER_JOB};
 // The words of a call.
 pub const CALL_WORDS: usize = 16;
 
+// No places: those beside a call without a list of them.
+const NO_PLACES: [u8; PLACES_PER_JOB] = [0; PLACES_PER_JOB];
+
 // A call that is read, and the places of its list.
 #[derive(Clone, Copy)]
 pub struct Entry {
@@ -24,13 +28,36 @@ pub struct Entry {
     pub places: [u8; PLACES_PER_JOB],
 }
 
-// Is the kind known?
-fn call_ok(call: &[u64]) -> bool
-    requires { length call.now ≡ call_words }
-    ensures { result ≡ is_accepted (call_in call.now) }
+// The kinds of calls.
+#[derive(Clone, Copy)]
+enum Kind {
+    Request,
+    Release,
+    Rebind,
+    Install,
+    Clear,
+    Fresh,
+    Keep,
+    SetMap,
+    Drain,
+}
+
+// "1 request, 2 release, 3 rebind, 4 install, 5 clear", and from 16 on the kinds that the journal has not; no others are known.
+fn kind_of(word: u64) -> Option<Kind>
+    ensures { KindOf result word }
 {
-    let kind = call[0];
-    ((1 <= kind) & (kind <= 5)) | ((16 <= kind) & (kind <= 19))
+    match word {
+        1 => Some(Kind::Request),
+        2 => Some(Kind::Release),
+        3 => Some(Kind::Rebind),
+        4 => Some(Kind::Install),
+        5 => Some(Kind::Clear),
+        16 => Some(Kind::Fresh),
+        17 => Some(Kind::Keep),
+        18 => Some(Kind::SetMap),
+        19 => Some(Kind::Drain),
+        _ => None,
+    }
 }
 
 // Is every call of the list of a known kind, and none cut short?
@@ -41,12 +68,8 @@ pub fn calls_ok(calls: &[u64]) -> bool
         return false;
     }
     let mut ok = true;
-    let mut i = 0;
-    while i < calls.len() / CALL_WORDS {
-        let start = CALL_WORDS * i;
-        let end = start + CALL_WORDS;
-        ok = ok & call_ok(&calls[start..end]);
-        i += 1;
+    for i in 0..calls.len() / CALL_WORDS {
+        ok = ok & kind_of(calls[CALL_WORDS * i]).is_some();
     }
     ok
 }
@@ -69,87 +92,64 @@ fn list_in(call: &[u64], list: &mut [u8; MAP_BYTES])
     requires { (length call.now ≡ call_words) × (length list.old ≡ map_size) }
     ensures { list.new ≡ each (bytes_of 8) (drop 8 call.now) }
 {
-    let mut i: usize = 0;
-    while i < MAP_BYTES {
-        list[i] = words::byte(call[8 + i / 8], i % 8);
-        i += 1;
+    for (i, byte) in list.iter_mut().enumerate() {
+        *byte = words::byte(call[8 + i / 8], i % 8);
     }
 }
 
-// A call that sets a map, of kind 17 or 18; its list is put beside it.
-fn map_call(call: &[u64], list: &mut [u8; MAP_BYTES]) -> Call
+// The install that the words say.
+fn install_in(call: &[u64]) -> Call
+    requires { length call.now ≡ call_words }
+    ensures { result ≡ Call.Install (word_at call.now 1) (word_at call.now 2) (word_at call.now 3) (word_at call.now 4) (word_at call.now 5) }
+{
+    Call::Install {
+        job: call[1] as usize,
+        mode: call[2],
+        flag: call[3],
+        mask: call[4],
+        len: call[5] as usize,
+    }
+}
+
+// The call that the words say, none where they are of no known kind; the list of a call that sets a map is put beside it.
+pub fn read_call(call: &[u64], list: &mut [u8; MAP_BYTES]) -> Option<Entry>
     requires { (length call.now ≡ call_words) × (length list.old ≡ map_size) }
-    ensures says { (places : List ℕ) (c : LawCall) → 17 ≤ word_at call.now 0 → (word_at call.now 0 ≡ 19 → ⊥) → call_in call.now ≡ accept c → Says result places list.new c }
+    ensures says { (c : LawCall) → call_in call.now ≡ accept c → IsSomeAnd result (λ e. Says e.call e.places list.new c) }
     ensures long { length list.new ≡ map_size }
 {
-    list_in(call, list);
+    let kind = kind_of(call[0])?;
     let job = call[1] as usize;
     let len = call[5] as usize;
-    if call[0] == 17 {
-        return Call::Keep { job, len };
-    }
-    Call::SetMap { job, len }
-}
-
-// The call that the words of a known kind say; the list of a call that sets a map is put beside it.
-pub fn read_call(call: &[u64], list: &mut [u8; MAP_BYTES]) -> Entry
-    requires { (length call.now ≡ call_words) × (length list.old ≡ map_size) }
-    ensures says { (c : LawCall) → call_in call.now ≡ accept c → Says result.call result.places list.new c }
-    ensures long { length list.new ≡ map_size }
-{
-    let kind = call[0];
-    let job = call[1] as usize;
-    if kind == 4 {
-        let said = Call::Install {
-            job: job,
-            mode: call[2],
-            flag: call[3],
-            mask: call[4],
-            len: call[5] as usize,
-        };
-        let places = places_in(call);
-        return Entry {
-            call: said,
-            places: places,
-        };
-    }
-    if kind == 19 {
-        let said = Call::Drain {
-            node: job,
-            room: call[2] as usize,
-        };
-        return Entry {
-            call: said,
-            places: [0; PLACES_PER_JOB],
-        };
-    }
-    if 17 <= kind {
-        let said = map_call(call, list);
-        return Entry {
-            call: said,
-            places: [0; PLACES_PER_JOB],
-        };
-    }
-    let said = match kind {
-        1 => Call::Request {
-            job: job,
-            cpu: call[2] as usize,
-        },
-        2 => Call::Release {
-            job: job,
-            page: call[2] as usize,
-        },
-        3 => Call::Rebind {
-            job: job,
-            allowed: call[2],
-        },
-        5 => Call::Clear { job: job },
-        _ => Call::Fresh,
+    let (call, places) = match kind {
+        Kind::Request => {
+            let cpu = call[2] as usize;
+            (Call::Request { job, cpu }, NO_PLACES)
+        }
+        Kind::Release => {
+            let page = call[2] as usize;
+            (Call::Release { job, page }, NO_PLACES)
+        }
+        Kind::Rebind => {
+            let allowed = call[2];
+            (Call::Rebind { job, allowed }, NO_PLACES)
+        }
+        Kind::Install => (install_in(call), places_in(call)),
+        Kind::Clear => (Call::Clear { job }, NO_PLACES),
+        Kind::Fresh => (Call::Fresh, NO_PLACES),
+        Kind::Keep => {
+            list_in(call, list);
+            (Call::Keep { job, len }, NO_PLACES)
+        }
+        Kind::SetMap => {
+            list_in(call, list);
+            (Call::SetMap { job, len }, NO_PLACES)
+        }
+        Kind::Drain => {
+            let room = call[2] as usize;
+            (Call::Drain { node: job, room }, NO_PLACES)
+        }
     };
-    Entry {
-        call: said,
-        places: [0; PLACES_PER_JOB],
-    }
+    Some(Entry { call, places })
 }
 
 // An answer in one word.

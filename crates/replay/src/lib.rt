@@ -39,19 +39,28 @@ fn run_calls(
     let n = calls.len() / CALL_WORDS;
     let mut hints = [0u32; HINTS];
     let mut list = [0u8; MAP_BYTES];
-    let mut i = 0;
-    while i < n {
+    for i in 0..n {
         let start = CALL_WORDS * i;
         let end = start + CALL_WORDS;
-        let read = encoding::read_call(&calls[start..end], &mut list);
-        let call = read.call;
-        let places = read.places;
+        // Every kind is known by now, so that no call is passed over.
+        let Some(read) = encoding::read_call(&calls[start..end], &mut list) else {
+            continue;
+        };
         let answer = book::perform(
-            counts, starts, &mut hints, cpus, distances, pages, jobs, free, maps, call, places,
+            counts,
+            starts,
+            &mut hints,
+            cpus,
+            distances,
+            pages,
+            jobs,
+            free,
+            maps,
+            read.call,
+            read.places,
             &list,
         );
         answers[i] = encoding::answer_word(answer);
-        i += 1;
     }
     n as u64
 }

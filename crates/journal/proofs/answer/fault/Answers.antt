@@ -1,6 +1,5 @@
 -- `fault` is the answer of a refusal, with kind FF.
 -- Assumes nothing.
-use borrow.Author.Rules.{rules}
 use Rattle.rules.specs.Journal.{faulty}
 use Rattle.journal.proofs.answer.fault.Goals as goal
 

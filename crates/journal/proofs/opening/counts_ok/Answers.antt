@@ -2,7 +2,6 @@
 -- Assumes nothing.
 use mathlib.Core.Path.{refl}
 use Rattle.rules.specs.Journal.{counts_ok}
-use borrow.Author.Rules.{rules}
 use Rattle.journal.proofs.opening.counts_ok.Goals as goal
 
 pub returns : goal.returns

@@ -4,7 +4,6 @@ use native.Mathlib.Nat.{add-sub_cancel_left}
 use native.Mathlib.Omega.{arith}
 use Rattle.rules.specs.Journal.{part, machine_size, machine_in}
 use Rattle.journal.proofs.MachineRecord.{head_in}
-use borrow.Author.Rules.{rules}
 use Rattle.journal.proofs.opening.cpu_bytes.Goals as goal
 
 pub byte_at-requires : goal.byte_at-requires

@@ -3,8 +3,7 @@
 use native.Mathlib.Nat.{add-sub_cancel_left}
 use native.Mathlib.Omega.{arith}
 use Rattle.rules.specs.Journal.{part, machine_size, machine_in}
-use Rattle.journal.proofs.MachineRecord.{head_in, square_most}
-use borrow.Author.Rules.{rules}
+use Rattle.journal.proofs.MachineRecord.{head_in}
 use Rattle.journal.proofs.opening.distance_bytes.Goals as goal
 
 pub byte_at-n-requires : goal.byte_at-n-requires

@@ -2,7 +2,6 @@
 -- Assumes nothing.
 use borrow.Author.Tests.{lt-leb, le-leb}
 use Rattle.rules.specs.Journal.{head_ok}
-use borrow.Author.Rules.{rules}
 use Rattle.journal.proofs.opening.head_ok.Goals as goal
 
 pub returns-then-bytes-lt6 : goal.returns-then-bytes-lt6

@@ -1,9 +1,6 @@
 -- `machine_size` adds up the parts of the record.
 -- Assumes nothing.
-use native.Mathlib.Omega.{arith}
 use Rattle.rules.specs.Journal.{machine_size}
-use Rattle.journal.proofs.MachineRecord.{square_most}
-use borrow.Author.Rules.{rules}
 use Rattle.journal.proofs.opening.machine_size.Goals as goal
 
 pub returns : goal.returns

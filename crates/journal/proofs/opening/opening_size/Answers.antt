@@ -2,7 +2,6 @@
 -- Assumes nothing.
 use mathlib.Core.Path.{◌≡◌, sym, ◌∙◌}
 use native.Mathlib.Omega.{arith}
-use borrow.Author.Tests.{not-true, not-false}
 use Rattle.journal.specs.Opening.{opening_size}
 use Rattle.journal.proofs.MachineRecord.{opening_between}
 use borrow.Author.Rules.{rules}

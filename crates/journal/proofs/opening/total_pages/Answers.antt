@@ -1,9 +1,7 @@
 -- `total_pages` adds up the counts that are read out of the record.
 -- Assumes nothing.
-use mathlib.Core.Path.{ap, ◌∙◌}
 use native.Mathlib.Omega.{arith}
 use borrow.Author.Rules.{rules}
-use Rattle.rules.specs.Basics.{sum}
 use Rattle.journal.proofs.MachineRecord.{head_in, Cut, cut}
 use Rattle.journal.proofs.opening.total_pages.Goals as goal
 

@@ -1,13 +1,11 @@
--- `u16_at` puts two bytes together.
+-- `u16_at` reads the bytes at the place.
 -- Assumes nothing.
-use Prim.Native.Nat.{◌+◌}
-use mathlib.Core.Path.{sym}
-use native.Mathlib.Omega.{arith}
-use Rattle.journal.proofs.Numbers.{number_one, two_halves}
-use borrow.Author.Rules.{rules}
+use mathlib.Core.Path.{◌∙◌, ap}
+use mathlib.Core.List.{List}
+use Prim.Native.Nat.{ℕ}
+use Rattle.std.specs.Int.{w16, from_le_bytes}
+use Rattle.journal.proofs.Numbers.{number_le}
 use Rattle.journal.proofs.reading.u16_at.Goals as goal
 
 pub returns : goal.returns
-returns c = two_halves c.args.at 1 c.args.bytes.now (omega (arith, c.shared_slice_known-1.given c.args.at))
-    (omega (arith, c.shared_slice_known-1.given (c.args.at + 1))) (omega arith)
-    (sym (number_one c.args.at c.args.bytes.now (omega arith))) (sym (number_one (c.args.at + 1) c.args.bytes.now (omega arith)))
+returns c = c.from_le_bytes.ensures ∙ ap (λ (xs : List ℕ). from_le_bytes w16 xs) c.part.ensures ∙ number_le c.args.at 1 c.args.bytes.now c.requires

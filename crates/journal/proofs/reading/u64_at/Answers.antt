@@ -1,9 +1,11 @@
--- `u64_at` puts two halves together.
+-- `u64_at` reads the bytes at the place.
 -- Assumes nothing.
-use native.Mathlib.Omega.{arith}
-use Rattle.journal.proofs.Numbers.{two_halves}
-use borrow.Author.Rules.{rules}
+use mathlib.Core.Path.{◌∙◌, ap}
+use mathlib.Core.List.{List}
+use Prim.Native.Nat.{ℕ}
+use Rattle.std.specs.Int.{w64, from_le_bytes}
+use Rattle.journal.proofs.Numbers.{number_le}
 use Rattle.journal.proofs.reading.u64_at.Goals as goal
 
 pub returns : goal.returns
-returns c = two_halves _ 4 _ (omega arith) (omega arith) (omega arith) c.u32_at-low.ensures c.u32_at-high.ensures
+returns c = c.from_le_bytes.ensures ∙ ap (λ (xs : List ℕ). from_le_bytes w64 xs) c.part.ensures ∙ number_le c.args.at 7 c.args.bytes.now c.requires

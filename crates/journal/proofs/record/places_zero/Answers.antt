@@ -1,7 +1,6 @@
 -- `places_zero` tests the places eight at a time.
 -- Assumes nothing.
-use borrow.Author.Rules.{rules}
-use Rattle.journal.proofs.Unused.{places_low, places_high, places_past}
+use Rattle.journal.proofs.Unused.{places_low, places_past}
 use Rattle.journal.proofs.record.places_zero.Goals as goal
 
 pub returns-then-len-lt8 : goal.returns-then-len-lt8

@@ -1,19 +1,13 @@
 -- `run_records` does one record after the other: those done and the part still to come are the part of the whole input.
 -- Assumes nothing.
-use Prim.Native.Nat.{◌+◌, ◌-◌, ◌≤◌}
-use mathlib.Core.Path.{◌≡◌, refl}
-use mathlib.Core.Bool.{true}
-use native.Mathlib.Omega.{arith}
-use borrow.Author.Rules.{rules}
-use borrow.Author.Tests.{not-true, not-false}
+use Prim.Native.Nat.{◌-◌}
+use mathlib.Core.Path.{◌≡◌}
 use lib.ListN.{length}
-use Rattle.rules.specs.Calls.{Tables, tables_of}
+use Rattle.rules.specs.Calls.{tables_of}
 use Rattle.machine.specs.Tables.{machine_of}
 use Rattle.placement.specs.Hints.{Hints}
-use Rattle.journal.specs.Passes.{passed}
-use Rattle.journal.specs.Parts.{Passed}
-use Rattle.rules.proofs.InOrder.{SameLengths, same_lengths, lengths_then, same_lengths_ok}
-use Rattle.journal.proofs.Output.{Held, begun, finished, lent_room, came, advanced, stopped}
+use Rattle.rules.proofs.InOrder.{SameLengths}
+use Rattle.journal.proofs.Output.{Held}
 use Rattle.journal.proofs.run.run_records.Given as goal
 
 abbrev pub invariant-loop-output : goal.invariant-loop-output

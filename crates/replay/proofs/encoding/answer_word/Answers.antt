@@ -2,7 +2,6 @@
 -- Assumes nothing.
 use mathlib.Core.Path.{ap}
 use Rattle.replay.specs.Encoding.{packed, answer_word}
-use borrow.Author.Rules.{rules}
 use Rattle.replay.proofs.encoding.answer_word.Goals as goal
 
 pub returns : goal.returns

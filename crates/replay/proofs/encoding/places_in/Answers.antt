@@ -1,14 +1,12 @@
 -- `places_in` meets its contract: a list of less than sixteen places is cut at its end.
 -- Assumes nothing.
 use Prim.Native.Nat.{ℕ}
-use mathlib.Core.Path.{sym, ap, ◌∙◌}
+use mathlib.Core.Path.{ap, ◌∙◌}
 use mathlib.Core.List.{List}
 use native.Mathlib.Omega.{arith}
-use borrow.Author.Rules.{rules}
-use lib.ListN.{length, take}
-use lib.Seq.{length-take-le}
+use lib.ListN.{take}
 use Rattle.replay.specs.Encoding.{word_at, filled}
-use Rattle.replay.proofs.Words.{sixteen_long, short_places, long_places}
+use Rattle.replay.proofs.Words.{short_places, long_places}
 use Rattle.replay.proofs.encoding.places_in.Goals as goal
 
 pub returns-then-call : goal.returns-then-call

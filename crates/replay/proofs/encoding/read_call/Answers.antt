@@ -1,57 +1,36 @@
 -- `read_call` meets its contract, kind by kind.
 -- Assumes nothing.
-use mathlib.Core.Path.{sym}
-use borrow.Author.Rules.{rules}
-use Rattle.replay.specs.Encoding.{list_in}
-use Rattle.replay.proofs.Words.{says_request, says_release, says_rebind, says_install, says_clear, says_drain, says_fresh, places_length}
+use mathlib.Core.Path.{◌≡◌, sym, ap, ◌∙◌}
+use mathlib.Core.Bool.{false≢true}
+use Rattle.rules.specs.Decisions.{is_accepted}
+use Rattle.replay.specs.Encoding.{word_at, list_in}
+use Rattle.replay.specs.Kinds.{number_of}
+use Rattle.replay.proofs.Words.{says_request, says_release, says_rebind, says_install, says_clear, says_fresh, says_keep, says_set, says_drain}
+use Rattle.replay.proofs.Words.{places_length, list_named, known_kind}
 use Rattle.replay.proofs.encoding.read_call.Goals as goal
+use Rattle.replay.proofs.encoding.read_call.Goals.{in-Request, in-Release, in-Rebind, in-Install, in-Clear, in-Fresh, in-Keep, in-SetMap, in-Drain}
 
--- an install
-pub returns-then-kind-eq4 : goal.returns-then-kind-eq4
-returns-then-kind-eq4 c = record {
-  says = λ x e. (
-    list_in c.args.call.now,
-    says_install c.args.call.now x e c.if-kind-eq4.true,
-    record { long = sym (places_length c.args.call.now); held = c.places_in-places.ensures },
-  );
-  long = c.requires.1;
-}
+pub returns-in_err-kind-clause-says : goal.returns-in_err-kind-clause-says
+returns-in_err-kind-clause-says c x e = absurd (false≢true (sym (known_kind c.args.call.now ∙ c.in_err-kind.ensures) ∙ ap is_accepted e))
 
--- a drain
-pub returns-then-kind-eq19 : goal.returns-then-kind-eq19
-returns-then-kind-eq19 c = record {
-  says = λ x e. says_drain _ x e c.if-kind-eq19.true;
-  long = c.requires.1;
-}
-
-pub returns-in-1 : goal.returns-in-1
-returns-in-1 c = record {
-  says = λ x e. says_request _ x e c.in-1.is;
-  long = c.requires.1;
-}
-
-pub returns-in-2 : goal.returns-in-2
-returns-in-2 c = record {
-  says = λ x e. says_release _ x e c.in-2.is;
-  long = c.requires.1;
-}
-
-pub returns-in-3 : goal.returns-in-3
-returns-in-3 c = record {
-  says = λ x e. says_rebind _ x e c.in-3.is;
-  long = c.requires.1;
-}
-
-pub returns-in-5 : goal.returns-in-5
-returns-in-5 c = record {
-  says = λ x e. says_clear _ x e c.in-5.is;
-  long = c.requires.1;
-}
-
-pub returns-in_default : goal.returns-in_default
-returns-in_default c = record {
-  says = λ x e. says_fresh _ x e c.in_default.in_default-own.rest.0.0.0.1 c.in_default.in_default-own.rest.0.0.1
-      c.in_default.in_default-own.rest.0.1 c.if-kind-eq4.false c.in_default.in_default-own.rest.1
-      c.if-kind-ge17.false;
-  long = c.requires.1;
-}
+pub returns-clause-says : goal.returns-clause-says
+returns-clause-says c x e =
+    let is : word_at c.args.call.now 0 ≡ number_of c.in_ok-kind.kind = c.in_ok-kind.ensures in
+    let named = list_named c.args.call.now c.requires.0 in
+    elim c.match-kind.branch [
+      | in-Install w ↦ rw (w.call-is, w.install_in.ensures) (
+        list_in c.args.call.now,
+        says_install _ x e (is ∙ ap number_of w.in-Install.is),
+        record { long = sym (places_length c.args.call.now); held = w.places_in.ensures },
+      )
+      | in-Keep w ↦ rw (w.call-is, w.list-is, w.list_in.ensures)
+          (list_in c.args.call.now, says_keep _ x e (is ∙ ap number_of w.in-Keep.is), named)
+      | in-SetMap w ↦ rw (w.call-is, w.list-is, w.list_in-in-SetMap.ensures)
+          (list_in c.args.call.now, says_set _ x e (is ∙ ap number_of w.in-SetMap.is), named)
+      | in-Request w ↦ rw w.call-is (says_request _ x e (is ∙ ap number_of w.in-Request.is))
+      | in-Release w ↦ rw w.call-is (says_release _ x e (is ∙ ap number_of w.in-Release.is))
+      | in-Rebind w ↦ rw w.call-is (says_rebind _ x e (is ∙ ap number_of w.in-Rebind.is))
+      | in-Clear w ↦ rw w.call-is (says_clear _ x e (is ∙ ap number_of w.in-Clear.is))
+      | in-Fresh w ↦ rw w.call-is (says_fresh _ x e (is ∙ ap number_of w.in-Fresh.is))
+      | in-Drain w ↦ rw w.call-is (says_drain _ x e (is ∙ ap number_of w.in-Drain.is))
+    ]
