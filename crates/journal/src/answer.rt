@@ -5,7 +5,7 @@ ghost use Rattle.rules.specs.Calls.{numbers};
 ghost use Rattle.rules.specs.Journal.{answer_bytes, faulty};
 ghost use Rattle.rules.specs.Answers.{number_of, answer_of};
 
-use rules::{Answer, Refusal};
+use rules::{Answer, Numbers, Refusal};
 
 // "Answers are 12 bytes"
 pub const ANSWER_SIZE: usize = 12;
@@ -14,7 +14,7 @@ pub const ANSWER_SIZE: usize = 12;
 pub fn line(kind: u8, answer: Answer) -> [u8; ANSWER_SIZE]
     ensures { result ≡ answer_bytes kind (numbers (answer_of answer)) }
 {
-    let n = answer.numbers();
+    let n = Numbers::from(answer);
     let [b0, b1, b2, b3] = n.page.to_le_bytes();
     [0x4E, 0x41, kind, n.refusal, n.node, 0, 0, 0, b0, b1, b2, b3]
 }
@@ -23,5 +23,5 @@ pub fn line(kind: u8, answer: Answer) -> [u8; ANSWER_SIZE]
 pub fn fault(why: Refusal) -> [u8; ANSWER_SIZE]
     ensures { result ≡ faulty (number_of why) }
 {
-    line(0xFF, Answer::Refused(why))
+    line(0xFF, Err(why))
 }

@@ -12,7 +12,7 @@ ghost use Rattle.journal.specs.Whole.{written_as};
 
 use answer::ANSWER_SIZE;
 use opening::PAGES;
-use rules::{Decision, MAP_BYTES, MOST_JOBS, NO_NODE, Refusal, WORDS_PER_JOB};
+use rules::{MAP_BYTES, MOST_JOBS, NO_NODE, Refusal, WORDS_PER_JOB};
 
 pub mod answer;
 pub mod opening;
@@ -83,24 +83,24 @@ fn run_all(input: &[u8], size: usize, output: &mut [u8]) -> usize
 }
 
 // A whole journal: its answers, put at the start of the output.
-pub fn journal(input: &[u8], output: &mut [u8]) -> Decision
+pub fn journal(input: &[u8], output: &mut [u8]) -> Result<u64, Refusal>
     ensures { written_as result output.new ≡ write_journal input.now output.old }
 {
     let opened = opening::verdict(input);
     match opened {
-        Decision::Accept(size) => {
+        Ok(size) => {
             let start = size as usize;
             if output.len() < run::answers_size(&input[start..]) {
-                return Decision::Refuse(Refusal::OutputTooShort);
+                return Err(Refusal::OutputTooShort);
             }
-            Decision::Accept(run_all(input, start, output) as u64)
+            Ok(run_all(input, start, output) as u64)
         }
-        Decision::Refuse(why) => {
+        Err(why) => {
             if output.len() < ANSWER_SIZE {
-                return Decision::Refuse(Refusal::OutputTooShort);
+                return Err(Refusal::OutputTooShort);
             }
             let fault = answer::fault(why);
-            Decision::Accept(rules::copy(&fault, output) as u64)
+            Ok(rules::copy(&fault, output) as u64)
         }
     }
 }

@@ -8,7 +8,7 @@ ghost use Rattle.rules.specs.Journal.{byte_at, head_size, head_ok, counts_ok, ma
 ghost use Rattle.journal.specs.Opening.{opening_size};
 
 use super::reading::{byte_at, marked, u16_at};
-use rules::{Decision, Refusal};
+use rules::{Refusal};
 
 // "at most 16,384 pages"
 pub const PAGES: usize = 16384;
@@ -101,23 +101,23 @@ pub fn machine_ok(bytes: &[u8]) -> bool
 }
 
 // "the six head bytes' 13, then N and CPU count, then shortness, then the other rules": the size of a good machine record.
-pub fn verdict(bytes: &[u8]) -> Decision
+pub fn verdict(bytes: &[u8]) -> Result<u64, Refusal>
     ensures { decision_of result ≡ opening bytes.now }
 {
     if !head_ok(bytes) {
-        return Decision::Refuse(Refusal::DamagedJournal);
+        return Err(Refusal::DamagedJournal);
     }
     if !counts_ok(bytes) {
-        return Decision::Refuse(Refusal::BadTables);
+        return Err(Refusal::BadTables);
     }
     let size = machine_size(bytes);
     if bytes.len() < size {
-        return Decision::Refuse(Refusal::DamagedJournal);
+        return Err(Refusal::DamagedJournal);
     }
     if !machine_ok(bytes) {
-        return Decision::Refuse(Refusal::BadTables);
+        return Err(Refusal::BadTables);
     }
-    Decision::Accept(size as u64)
+    Ok(size as u64)
 }
 
 // How many bytes the verdict goes by, as the six head bytes say.

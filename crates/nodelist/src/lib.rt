@@ -12,38 +12,38 @@ mod reader;
 mod writer;
 
 use nodemask::Mask;
-use rules::{Decision, Refusal};
+use rules::{Refusal};
 
 // The mask of the nodes that a text names, `nodes` being N and `allowed` the allowed set.
-pub fn read_nodes(nodes: usize, allowed: u64, text: &[u8]) -> Decision
+pub fn read_nodes(nodes: usize, allowed: u64, text: &[u8]) -> Result<u64, Refusal>
     ensures { decision_of result ≡ read_text nodes allowed text.now }
 {
     let limit = Mask(allowed);
     if !nodemask::nodes_ok(nodes) {
-        return Decision::Refuse(Refusal::BadTables);
+        return Err(Refusal::BadTables);
     }
     if !limit.below(nodes) {
-        return Decision::Refuse(Refusal::DoesNotFit);
+        return Err(Refusal::DoesNotFit);
     }
     if text.len() > 255 {
-        return Decision::Refuse(Refusal::BadText);
+        return Err(Refusal::BadText);
     }
     match forms::read_form(nodes, limit, text) {
-        Some(named) => Decision::Accept(named.0),
-        None => Decision::Refuse(Refusal::BadText),
+        Some(named) => Ok(named.0),
+        None => Err(Refusal::BadText),
     }
 }
 
 // The text of a mask, `nodes` being N, put at the start of the output: its length.
-pub fn write_nodes(nodes: usize, mask: u64, out: &mut [u8]) -> Decision
+pub fn write_nodes(nodes: usize, mask: u64, out: &mut [u8]) -> Result<u64, Refusal>
     ensures { wrote (decision_of result) out.new ≡ write_text nodes mask out.old }
 {
     let set = Mask(mask);
     if !nodemask::nodes_ok(nodes) {
-        return Decision::Refuse(Refusal::BadTables);
+        return Err(Refusal::BadTables);
     }
     if !set.below(nodes) {
-        return Decision::Refuse(Refusal::DoesNotFit);
+        return Err(Refusal::DoesNotFit);
     }
     writer::write_text(set, out)
 }

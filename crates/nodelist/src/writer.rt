@@ -10,7 +10,7 @@ ghost use Rattle.rules.specs.Decisions.{wrote, written};
 ghost use Rattle.rules.specs.Text.{text_of};
 
 use nodemask::Mask;
-use rules::{Decision, Refusal, SysNode};
+use rules::{Refusal, SysNode};
 
 // A run of nodes from low to high.
 #[derive(Clone, Copy)]
@@ -83,17 +83,17 @@ fn put_runs(line: &mut [u8; 192], mask: Mask) -> usize
 }
 
 // The text of a mask put at the start of the output, if it fits there.
-pub fn write_text(mask: Mask, out: &mut [u8]) -> Decision
+pub fn write_text(mask: Mask, out: &mut [u8]) -> Result<u64, Refusal>
     ensures { wrote (decision_of result) out.new ≡ written out.old (text_of mask.0) }
 {
     let mut line = [0u8; 192];
     let len = put_runs(&mut line, mask);
     if len == 0 {
-        return Decision::Accept(0);
+        return Ok(0);
     }
     if len - 1 > out.len() {
-        return Decision::Refuse(Refusal::OutputTooShort);
+        return Err(Refusal::OutputTooShort);
     }
     let size = rules::copy(&line[1..len], out);
-    Decision::Accept(size as u64)
+    Ok(size as u64)
 }

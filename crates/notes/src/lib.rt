@@ -8,11 +8,10 @@ ghost use Rattle.rules.specs.Basics.{is_nil};
 ghost use Rattle.rules.specs.Decisions.{wrote};
 ghost use Rattle.rules.specs.Notes.{has_name, in_part, name_part, note_places, write_note};
 
-use maps::judging::Judged;
 use maps::{judging, turning};
 use reader::HEAD_BYTES;
 use records::table;
-use rules::{Decision, Part, Refusal};
+use rules::{Part, Refusal};
 
 mod list;
 mod names;
@@ -57,40 +56,39 @@ pub fn note_places(
     job: usize,
     which: u64,
     out: &mut [u8],
-) -> Decision
+) -> Result<u64, Refusal>
     ensures { wrote (decision_of result) out.new ≡ note_places nodes jobs.now maps.now names.now note.now job which out.old }
 {
     if !table::mapped_ok(nodes, jobs.len(), maps.len()) {
-        return Decision::Refuse(Refusal::BadTables);
+        return Err(Refusal::BadTables);
     }
     if !names::table_ok(names, nodes) {
-        return Decision::Refuse(Refusal::BadTables);
+        return Err(Refusal::BadTables);
     }
     if !table::has_job(jobs.len(), job) {
-        return Decision::Refuse(Refusal::NoSuchJob);
+        return Err(Refusal::NoSuchJob);
     }
     let map = turning::of_job(maps, job);
-    let judged = judging::judge(nodes, map);
-    match judged {
-        Judged::Good(_, _) => places::turn_note(map, names, note, which, out),
-        Judged::Bad => Decision::Refuse(Refusal::BadMap),
-    }
+    let Some(_) = judging::judge(nodes, map) else {
+        return Err(Refusal::BadMap);
+    };
+    places::turn_note(map, names, note, which, out)
 }
 
 // The note of a text and a data list, "each laid out like the table", put at the start of the output: its length.
-pub fn write_note(text: &[u8], data: &[u8], out: &mut [u8]) -> Decision
+pub fn write_note(text: &[u8], data: &[u8], out: &mut [u8]) -> Result<u64, Refusal>
     ensures { wrote (decision_of result) out.new ≡ write_note text.now «data».now out.old }
 {
     let Some(texts) = list::count(text) else {
-        return Decision::Refuse(Refusal::BadNote);
+        return Err(Refusal::BadNote);
     };
     let Some(datas) = list::count(data) else {
-        return Decision::Refuse(Refusal::BadNote);
+        return Err(Refusal::BadNote);
     };
     let size = HEAD_BYTES + text.len() + data.len();
     if out.len() < size {
-        return Decision::Refuse(Refusal::OutputTooShort);
+        return Err(Refusal::OutputTooShort);
     }
     writer::put_note(text, data, texts, datas, out);
-    Decision::Accept(size as u64)
+    Ok(size as u64)
 }

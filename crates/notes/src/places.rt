@@ -10,7 +10,7 @@ ghost use Rattle.notes.specs.Steps.{Tested, found_in, found_of, note_tests};
 
 use super::{list, names, reader};
 use maps::turning;
-use rules::{CLOSING_PLACE, Decision, NO_NODE, PLACES_PER_JOB, Refusal, SysNode};
+use rules::{CLOSING_PLACE, NO_NODE, PLACES_PER_JOB, Refusal, SysNode};
 
 // "a place is the node's application number, a first match outside the map counting as an unknown name": none for an unknown name.
 fn place_of(map: &[u8], table: &[u8], word: &[u8]) -> Option<u8>
@@ -49,26 +49,26 @@ fn put_places(map: &[u8], table: &[u8], list: &[u8], line: &mut [u8; PLACES_PER_
 }
 
 // The places of a list of at most 16 names put at the start of the output, if they fit there.
-fn turn_list(map: &[u8], table: &[u8], list: &[u8], out: &mut [u8]) -> Decision
+fn turn_list(map: &[u8], table: &[u8], list: &[u8], out: &mut [u8]) -> Result<u64, Refusal>
     requires { ((n : ℕ) × Tested n map.now table.now) × (length (strings list.now) ≤ most_names) }
     ensures { wrote (decision_of result) out.new ≡ written out.old (places_in (strings table.now) (nodes_in map.now) (strings list.now)) }
 {
     let mut line = [0u8; PLACES_PER_JOB];
     let len = put_places(map, table, list, &mut line);
     if out.len() < len {
-        return Decision::Refuse(Refusal::OutputTooShort);
+        return Err(Refusal::OutputTooShort);
     }
     out[..len].copy_from_slice(&line[..len]);
-    Decision::Accept(len as u64)
+    Ok(len as u64)
 }
 
 // The tests 16 and 11, and the places of a note's list.
-pub fn turn_note(map: &[u8], table: &[u8], note: &[u8], which: u64, out: &mut [u8]) -> Decision
+pub fn turn_note(map: &[u8], table: &[u8], note: &[u8], which: u64, out: &mut [u8]) -> Result<u64, Refusal>
     requires { (n : ℕ) × Tested n map.now table.now }
     ensures { wrote (decision_of result) out.new ≡ note_tests (strings table.now) (nodes_in map.now) note.now which out.old }
 {
     if !reader::note_ok(note) {
-        return Decision::Refuse(Refusal::BadNote);
+        return Err(Refusal::BadNote);
     }
     let list = reader::list_of(note, which);
     turn_list(map, table, list, out)

@@ -11,7 +11,6 @@ use failure::Failure;
 use journal::opening::LONGEST;
 use journal::{answer, opening, reading};
 use part::Rest;
-use rules::Decision;
 use std::io::{Read, Write};
 use stdio::Got;
 
@@ -91,8 +90,8 @@ fn answer_journal<R: Read, W: Write>(reader: &mut R, writer: &mut W) -> Result<(
     let n = read_opening(reader, &mut buffer)?;
     let bytes = &buffer[..n];
     match opening::verdict(bytes) {
-        Decision::Accept(_) => answer_records(reader, writer, bytes),
-        Decision::Refuse(refusal) => stdio::write_all(writer, &answer::fault(refusal)),
+        Ok(_) => answer_records(reader, writer, bytes),
+        Err(refusal) => stdio::write_all(writer, &answer::fault(refusal)),
     }
 }
 

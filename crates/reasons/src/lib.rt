@@ -22,7 +22,7 @@ use placement::plan::Plan;
 use placement::search;
 use placement::search::Chosen;
 use records::record::Record;
-use rules::{Decision, MOST_NODES, Refusal, SysNode};
+use rules::{MOST_NODES, Refusal, SysNode};
 
 mod reach;
 mod reason;
@@ -65,21 +65,21 @@ fn explain(
     limit: Mask,
     x: SysNode,
     out: &mut [u8],
-) -> Decision
+) -> Result<u64, Refusal>
     requires { Explainable counts.now starts.now distances.now pages.now free.now limit.0 (record_of loaded) x.0 × (length counts.now ≤ length out.old) }
     ensures { wrote (decision_of result) out.new ≡ explained counts.now distances.now pages.now free.now limit.0 (record_of loaded) x.0 out.old }
 {
     let decoded = loaded.job();
     let chosen = search::search(free, distances, limit, decoded, x);
     if !meets_room(counts, starts, pages, chosen) {
-        return Decision::Refuse(Refusal::WrongCount);
+        return Err(Refusal::WrongCount);
     }
     let plan = Plan::of(counts.len(), limit, decoded, x);
     let places = decoded.places;
     let named = reach::named(places, loaded.len);
     let reach = reach::reach_of(counts.len(), distances, limit, plan, named);
     reason::put_reasons(free, limit, reach, chosen, out);
-    Decision::Accept(counts.len() as u64)
+    Ok(counts.len() as u64)
 }
 
 // The reasons on tables that are in order: refusals 2, 15, 3, 4, 11 and 14.
@@ -95,31 +95,26 @@ fn write_at(
     job: usize,
     cpu: usize,
     out: &mut [u8],
-) -> Decision
+) -> Result<u64, Refusal>
     requires { (request_tables_ok (machine_of counts.now cpus.now distances.now) (tables_of pages.now jobs.now free.now maps.now) ≡ true) × Starts counts.now starts.now }
     ensures { wrote (decision_of result) out.new ≡ on_reasons (machine_of counts.now cpus.now distances.now) (tables_of pages.now jobs.now free.now maps.now) job cpu out.old }
 {
-    let admission = placement::admit(counts, cpus, distances, pages, jobs, free, maps, job, cpu);
-    match admission {
-        Ok(admitted) => {
-            if out.len() < counts.len() {
-                return Decision::Refuse(Refusal::OutputTooShort);
-            }
-            let x = SysNode(cpus[cpu]);
-            explain(
-                counts,
-                starts,
-                distances,
-                pages,
-                free,
-                admitted.record,
-                admitted.limit,
-                x,
-                out,
-            )
-        }
-        Err(why) => Decision::Refuse(why),
+    let admitted = placement::admit(counts, cpus, distances, pages, jobs, free, maps, job, cpu)?;
+    if out.len() < counts.len() {
+        return Err(Refusal::OutputTooShort);
     }
+    let x = SysNode(cpus[cpu]);
+    explain(
+        counts,
+        starts,
+        distances,
+        pages,
+        free,
+        admitted.record,
+        admitted.limit,
+        x,
+        out,
+    )
 }
 
 // The reasons of all nodes at a request of a job from a CPU, a byte for each node of the machine at the start of the output: how many. Refusals
@@ -135,11 +130,11 @@ pub fn write_reasons(
     job: usize,
     cpu: usize,
     out: &mut [u8],
-) -> Decision
+) -> Result<u64, Refusal>
     ensures { wrote (decision_of result) out.new ≡ on_reasons (machine_of counts.now cpus.now distances.now) (tables_of pages.now jobs.now free.now maps.now) job cpu out.old }
 {
     if !machine::machine_ok(counts, cpus, distances) {
-        return Decision::Refuse(Refusal::BadTables);
+        return Err(Refusal::BadTables);
     }
     let starts = machine::starts_of(counts);
     let total = machine::pages_end(counts, &starts);
@@ -151,7 +146,7 @@ pub fn write_reasons(
         free.len(),
         maps.len(),
     ) {
-        return Decision::Refuse(Refusal::BadTables);
+        return Err(Refusal::BadTables);
     }
     write_at(
         counts, &starts, cpus, distances, pages, jobs, free, maps, job, cpu, out,

@@ -13,7 +13,7 @@ ghost use Rattle.replay.specs.Kinds.{KindOf};
 
 use book::Call;
 use records::words;
-use rules::{Answer, MAP_BYTES, PLACES_PER_JOB};
+use rules::{Answer, MAP_BYTES, Numbers, PLACES_PER_JOB};
 
 // The words of a call.
 pub const CALL_WORDS: usize = 16;
@@ -156,6 +156,6 @@ pub fn read_call(call: &[u64], list: &mut [u8; MAP_BYTES]) -> Option<Entry>
 pub fn answer_word(answer: Answer) -> u64
     ensures { result ≡ answer_word (answer_of answer) }
 {
-    let told = answer.numbers();
+    let told = Numbers::from(answer);
     told.refusal as u64 + told.node as u64 * 256 + told.page as u64 * 4_294_967_296
 }

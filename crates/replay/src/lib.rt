@@ -16,7 +16,7 @@ use encoding::CALL_WORDS;
 use machine;
 use placement;
 use placement::hinting::HINTS;
-use rules::{Decision, MAP_BYTES, MOST_NODES, Refusal};
+use rules::{MAP_BYTES, MOST_NODES, Refusal};
 
 mod encoding;
 
@@ -76,13 +76,13 @@ pub fn replay(
     maps: &mut [u8],
     calls: &[u64],
     answers: &mut [u64],
-) -> Decision
+) -> Result<u64, Refusal>
     ensures ran { run (decision_of result) (tables_of pages.new jobs.new free.new maps.new) answers.new ≡ on_replay (machine_of counts.now cpus.now distances.now) (tables_of pages.old jobs.old free.old maps.old) calls.now answers.old }
     ensures fair { Demand3 (machine_of counts.now cpus.now distances.now) (tables_of pages.old jobs.old free.old maps.old) (calls_in calls.now) }
     ensures ledger { (k n : ℕ) → pages.old ≡ replicate k 0 → decision_of result ≡ accept n → Belongs (machine_of counts.now cpus.now distances.now) (tables_of pages.old jobs.old free.old maps.old) (calls_in calls.now) pages.new }
 {
     if !machine::machine_ok(counts, cpus, distances) {
-        return Decision::Refuse(Refusal::BadTables);
+        return Err(Refusal::BadTables);
     }
     let starts = machine::starts_of(counts);
     let total = machine::pages_end(counts, &starts);
@@ -94,15 +94,15 @@ pub fn replay(
         free.len(),
         maps.len(),
     ) {
-        return Decision::Refuse(Refusal::BadTables);
+        return Err(Refusal::BadTables);
     }
     if !encoding::calls_ok(calls) {
-        return Decision::Refuse(Refusal::DamagedJournal);
+        return Err(Refusal::DamagedJournal);
     }
     if answers.len() < calls.len() / CALL_WORDS {
-        return Decision::Refuse(Refusal::OutputTooShort);
+        return Err(Refusal::OutputTooShort);
     }
-    Decision::Accept(run_calls(
+    Ok(run_calls(
         counts, &starts, cpus, distances, pages, jobs, free, maps, calls, answers,
     ))
 }

@@ -9,8 +9,7 @@ use Rattle.rules.specs.declared.Refusal.{Refusal}
 use Rattle.rules.specs.declared.Refusal.TheVariants.{BadTables, NoSuchJob, NoSuchCpu, MalformedRecord, UnknownPolicy, DoesNotFit}
 use Rattle.rules.specs.declared.Refusal.TheVariants.{NothingAllowed, NoRoom, NothingEffective, NotHeld, OutputTooShort, BadText}
 use Rattle.rules.specs.declared.Refusal.TheVariants.{DamagedJournal, WrongCount, BadMap, BadNote, NowhereToGo}
-use Rattle.rules.specs.declared.Decision.{Decision}
-use Rattle.rules.specs.declared.Decision.TheVariants.{Accept, Refuse}
+use Rattle.std.specs.Prelude.{Result, Ok, Err}
 use Rattle.rules.specs.declared.Number.{Number}
 use Rattle.rules.specs.Decisions.{Decision as LawDecision, accept, Written, wrote}
 use Rattle.rules.specs.Calls.{Answer, Tables, Outcome, outcome, numbers}
@@ -70,8 +69,8 @@ numbered NowhereToGo = omega arith
 numbered BadNote = omega arith
 
 -- refusal 0 is no refusal: the calls ran
-pub ran_at_zero : (x : Decision) {n : Number} → number_in n ≡ in_numbers (decision_of x) → n.refusal ≡ 0 → decision_of x ≡ accept n.value
-ran_at_zero (Accept value) e z = ap accept (sym (ap (λ (l : List ℕ). get_or l 1 0) e))
-ran_at_zero (Refuse why) e z =
+pub ran_at_zero : (x : Result ℕ Refusal) {n : Number} → number_in n ≡ in_numbers (decision_of x) → n.refusal ≡ 0 → decision_of x ≡ accept n.value
+ran_at_zero (Ok value) e z = ap accept (sym (ap (λ (l : List ℕ). get_or l 1 0) e))
+ran_at_zero (Err why) e z =
     let same : 0 ≡ number_of why = sym z ∙ ap (λ (l : List ℕ). get_or l 0 0) e in
     absurd (omega (arith, numbered why))

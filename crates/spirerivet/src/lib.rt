@@ -45,7 +45,7 @@ pub extern "C" fn spire_request(
 ) -> Numbers
     ensures { told (numbers_in result) (tables_of pages.new jobs.new free.new maps.now) ≡ told_of (on_request (machine_of counts.now cpus.now distances.now) (tables_of pages.old jobs.old free.old maps.now) job cpu) }
 {
-    placement::request(counts, cpus, distances, pages, jobs, free, maps, job, cpu).numbers()
+    Numbers::from(placement::request(counts, cpus, distances, pages, jobs, free, maps, job, cpu))
 }
 
 // A page given back by its job.
@@ -61,7 +61,7 @@ pub extern "C" fn spire_release(
 ) -> Numbers
     ensures { told (numbers_in result) (tables_of pages.new jobs.now free.new maps.now) ≡ told_of (on_release counts.now (tables_of pages.old jobs.now free.old maps.now) job page) }
 {
-    placement::release(counts, pages, jobs, free, maps, job, page).numbers()
+    Numbers::from(placement::release(counts, pages, jobs, free, maps, job, page))
 }
 
 // Every page of the machine made free, and the free counts made.
@@ -69,7 +69,7 @@ pub extern "C" fn spire_release(
 pub extern "C" fn spire_fresh(counts: &[u32], pages: &mut [u8], free: &mut [u32]) -> Numbers
     ensures { (t : Tables) → told (numbers_in result) (with_pages t pages.new free.new) ≡ told_of (on_fresh counts.now (with_pages t pages.old free.old)) }
 {
-    placement::fresh(counts, pages, free).numbers()
+    Numbers::from(placement::fresh(counts, pages, free))
 }
 
 // A job's policy: its mode, flag, user mask or places.
@@ -86,7 +86,7 @@ pub extern "C" fn spire_install(
 ) -> Numbers
     ensures { (t : Tables) → told (numbers_in result) (with_jobs t jobs.new maps.now) ≡ told_of (on_install nodes (with_jobs t jobs.old maps.now) job (policy mode flag mask places.now)) }
 {
-    records::install(nodes, jobs, maps, job, mode, flag, mask, places).numbers()
+    Numbers::from(records::install(nodes, jobs, maps, job, mode, flag, mask, places))
 }
 
 // A job's allowed nodes.
@@ -94,7 +94,7 @@ pub extern "C" fn spire_install(
 pub extern "C" fn spire_rebind(nodes: usize, jobs: &mut [u64], job: usize, allowed: u64) -> Numbers
     ensures { (t : Tables) → told (numbers_in result) (with_records t jobs.new) ≡ told_of (on_rebind nodes (with_records t jobs.old) job allowed) }
 {
-    records::rebind(nodes, jobs, job, allowed).numbers()
+    Numbers::from(records::rebind(nodes, jobs, job, allowed))
 }
 
 // A job's record made fresh.
@@ -102,7 +102,7 @@ pub extern "C" fn spire_rebind(nodes: usize, jobs: &mut [u64], job: usize, allow
 pub extern "C" fn spire_clear(nodes: usize, jobs: &mut [u64], job: usize) -> Numbers
     ensures { (t : Tables) → told (numbers_in result) (with_records t jobs.new) ≡ told_of (on_clear nodes (with_records t jobs.old) job) }
 {
-    records::clear(nodes, jobs, job).numbers()
+    Numbers::from(records::clear(nodes, jobs, job))
 }
 
 // The tenant's call: the nodes of its map that a job keeps.
@@ -116,7 +116,7 @@ pub extern "C" fn spire_keep_nodes(
 ) -> Numbers
     ensures { (t : Tables) → told (numbers_in result) (with_jobs t jobs.now maps.new) ≡ told_of (on_keep nodes (with_jobs t jobs.now maps.old) job kept.now) }
 {
-    mapping::keep_nodes(nodes, jobs, maps, job, kept).numbers()
+    Numbers::from(mapping::keep_nodes(nodes, jobs, maps, job, kept))
 }
 
 // The administrator's call: the nodes of a job's map.
@@ -130,7 +130,7 @@ pub extern "C" fn spire_set_map(
 ) -> Numbers
     ensures { (t : Tables) → told (numbers_in result) (with_jobs t jobs.now maps.new) ≡ told_of (on_set_map nodes (with_jobs t jobs.now maps.old) job list.now) }
 {
-    mapping::set_map(nodes, jobs, maps, job, list).numbers()
+    Numbers::from(mapping::set_map(nodes, jobs, maps, job, list))
 }
 
 // The mask of the nodes that a text names.
@@ -138,7 +138,7 @@ pub extern "C" fn spire_set_map(
 pub extern "C" fn spire_read_nodes(nodes: usize, allowed: u64, text: &[u8]) -> Number
     ensures { number_in result ≡ in_numbers (read_text nodes allowed text.now) }
 {
-    nodelist::read_nodes(nodes, allowed, text).number()
+    Number::from(nodelist::read_nodes(nodes, allowed, text))
 }
 
 // The text of a mask at the start of the output, and its length.
@@ -146,7 +146,7 @@ pub extern "C" fn spire_read_nodes(nodes: usize, allowed: u64, text: &[u8]) -> N
 pub extern "C" fn spire_write_nodes(nodes: usize, mask: u64, out: &mut [u8]) -> Number
     ensures { told_output (number_in result) out.new ≡ told_written (write_text nodes mask out.old) }
 {
-    nodelist::write_nodes(nodes, mask, out).number()
+    Number::from(nodelist::write_nodes(nodes, mask, out))
 }
 
 // The k-th name of a note: which part of the note it is.
@@ -171,7 +171,7 @@ pub extern "C" fn spire_note_places(
 ) -> Number
     ensures { told_output (number_in result) out.new ≡ told_written (note_places nodes jobs.now maps.now names.now note.now job which out.old) }
 {
-    notes::note_places(nodes, jobs, maps, names, note, job, which, out).number()
+    Number::from(notes::note_places(nodes, jobs, maps, names, note, job, which, out))
 }
 
 // The note of a text and a data list at the start of the output, and its length.
@@ -179,7 +179,7 @@ pub extern "C" fn spire_note_places(
 pub extern "C" fn spire_write_note(text: &[u8], data: &[u8], out: &mut [u8]) -> Number
     ensures { told_output (number_in result) out.new ≡ told_written (write_note text.now «data».now out.old) }
 {
-    notes::write_note(text, data, out).number()
+    Number::from(notes::write_note(text, data, out))
 }
 
 // near(x) over a set of nodes at the start of the output: how many nodes, and in how many rounds.
@@ -193,7 +193,7 @@ pub extern "C" fn spire_near(
 ) -> OrderNumbers
     ensures { told_output (order_numbers_in result) out.new ≡ told_listing (on_near nodes distances.now set node out.old) }
 {
-    listing::list_near(nodes, distances, set, node, out).numbers()
+    OrderNumbers::from(listing::list_near(nodes, distances, set, node, out))
 }
 
 // The reason of each node of the machine at a request of a job from a CPU, a byte each at the start of the output, and how many.
@@ -212,10 +212,9 @@ pub extern "C" fn spire_reasons(
 ) -> Number
     ensures { told_output (number_in result) out.new ≡ told_written (on_reasons (machine_of counts.now cpus.now distances.now) (tables_of pages.now jobs.now free.now maps.now) job cpu out.old) }
 {
-    reasons::write_reasons(
+    Number::from(reasons::write_reasons(
         counts, cpus, distances, pages, jobs, free, maps, job, cpu, out,
-    )
-    .number()
+    ))
 }
 
 // Every held page of a node moved to other nodes: how many, and the pairs of pages, old then new, at the start of the output.
@@ -232,7 +231,7 @@ pub extern "C" fn spire_drain(
 ) -> Number
     ensures { told_run (number_in result) (tables_of pages.new jobs.now free.new maps.now) moves.new ≡ told_drain (on_drain counts.now distances.now node (tables_of pages.old jobs.now free.old maps.now) moves.old) }
 {
-    drain::drain(counts, distances, pages, jobs, free, maps, node, moves).number()
+    Number::from(drain::drain(counts, distances, pages, jobs, free, maps, node, moves))
 }
 
 // A list of calls, one after the other; their answers go to the output.
@@ -252,10 +251,9 @@ pub extern "C" fn spire_replay(
     ensures fair { Demand3 (machine_of counts.now cpus.now distances.now) (tables_of pages.old jobs.old free.old maps.old) (calls_in calls.now) }
     ensures ledger { (k : ℕ) → pages.old ≡ replicate k 0 → result.refusal ≡ 0 → Belongs (machine_of counts.now cpus.now distances.now) (tables_of pages.old jobs.old free.old maps.old) (calls_in calls.now) pages.new }
 {
-    replay::replay(
+    Number::from(replay::replay(
         counts, cpus, distances, pages, jobs, free, maps, calls, answers,
-    )
-    .number()
+    ))
 }
 
 // A whole journal; its answers at the start of the output, and their length.
@@ -263,5 +261,5 @@ pub extern "C" fn spire_replay(
 pub extern "C" fn spire_journal(input: &[u8], output: &mut [u8]) -> Number
     ensures { told_output (number_in result) output.new ≡ told_written (write_journal input.now output.old) }
 {
-    journal::journal(input, output).number()
+    Number::from(journal::journal(input, output))
 }

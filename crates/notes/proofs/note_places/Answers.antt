@@ -8,7 +8,6 @@ use Rattle.rules.specs.Notes.{strings}
 use Rattle.rules.proofs.InOrder.{mapped_map}
 use Rattle.rules.proofs.Kept.{mapped_nodes}
 use Rattle.rules.proofs.Maps.{map_long}
-use Rattle.records.proofs.Judged.{judged_good, judged_bad}
 use Rattle.notes.specs.Steps.{note_tests}
 use Rattle.notes.proofs.Tests.{bad_tables_lem, bad_names, no_job_lem, bad_map_lem, good_map_lem}
 use Rattle.notes.proofs.note_places.Goals as goal
@@ -29,8 +28,8 @@ returns-then-not-has_job c =
 pub of_job-map-requires : goal.of_job-map-requires
 of_job-map-requires c = mapped_map c.args.nodes _ _ c.args.job (sym c.if-not-mapped_ok.ensures) (sym c.if-not-has_job.ensures)
 
-pub judge-judged-requires : goal.judge-judged-requires
-judge-judged-requires c =
+pub judge-requires : goal.judge-requires
+judge-requires c =
     let few = mapped_nodes _ _ _ (sym c.if-not-mapped_ok.ensures) in
     let there = mapped_map c.args.nodes _ _ c.args.job (sym c.if-not-mapped_ok.ensures) (sym c.if-not-has_job.ensures) in
     (few.0, few.1, rw c.of_job-map.ensures (map_long c.args.maps.now c.args.job there))
@@ -39,19 +38,16 @@ pub turn_note-requires : goal.turn_note-requires
 turn_note-requires c =
     let few = mapped_nodes _ _ _ (sym c.if-not-mapped_ok.ensures) in
     let there = mapped_map c.args.nodes _ _ c.args.job (sym c.if-not-mapped_ok.ensures) (sym c.if-not-has_job.ensures) in
-    let good = (judged_good _ _ c.judge-judged.ensures c.in-Good.is).0 in
-    (c.args.nodes, (few.1, rw c.of_job-map.ensures (map_long c.args.maps.now c.args.job there), good, sym c.if-not-table_ok.ensures))
+    (c.args.nodes, (few.1, rw c.of_job-map.ensures (map_long c.args.maps.now c.args.job there), c.in-Some.ensures.0, sym c.if-not-table_ok.ensures))
 
-pub returns-in-Good : goal.returns-in-Good
-returns-in-Good c =
-    let good = (judged_good _ _ c.judge-judged.ensures c.in-Good.is).0 in
+pub returns : goal.returns
+returns c =
     c.turn_note.ensures
     ∙ ap (λ (bytes : List ℕ). note_tests (strings c.args.names.now) (nodes_in bytes) c.args.note.now c.args.which c.args.out.now) c.of_job-map.ensures
     ∙ good_map_lem _ _ _ _ _ _ _ _ (sym c.if-not-mapped_ok.ensures) (sym c.if-not-table_ok.ensures) (sym c.if-not-has_job.ensures)
-    (rw c.of_job-map.ensures at good)
+    (rw c.of_job-map.ensures at c.in-Some.ensures.0)
 
-pub returns-in-Bad : goal.returns-in-Bad
-returns-in-Bad c =
-    let bad = judged_bad _ _ c.judge-judged.ensures c.in-Bad.is in
+pub returns-in_default : goal.returns-in_default
+returns-in_default c =
     bad_map_lem _ _ _ _ _ _ _ _ (sym c.if-not-mapped_ok.ensures) (sym c.if-not-table_ok.ensures) (sym c.if-not-has_job.ensures)
-    (rw c.of_job-map.ensures at bad)
+    (rw c.of_job-map.ensures at c.in_default.ensures)

@@ -6,5 +6,5 @@ use Rattle.placer.proofs.answer_journal.Goals as goal
 
 pub answer_records-requires : goal.answer_records-requires
 answer_records-requires g c =
-    let v = sym c.verdict.ensures ∙ ap decision_of c.in-Accept.is in
+    let v = sym c.verdict.ensures ∙ ap decision_of c.in-Ok.is in
     rw (sym (good_opening _ v).size) v
