@@ -17,7 +17,7 @@ pub struct Judged {
     pub len: u8,
 }
 
-// How many bytes are not FF: no early exit, so that it is compiled to vectors.
+// How many bytes are not FF: no early exit, and a number of bytes that the compiler knows, so that it is compiled to vectors.
 fn used(map: &[u8]) -> usize
     requires { length map.now ≡ map_size }
     ensures { result ≡ length (keep is_node map.now) }

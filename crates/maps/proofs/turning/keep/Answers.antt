@@ -1,13 +1,14 @@
 -- `keep` meets its contract. The loop: the entries of the numbers before `i` are written, FF follows, and the numbers from `i` on decide.
 -- Assumes nothing.
-use Prim.Native.Nat.{◌≤◌, ◌<◌}
+use Prim.Native.Nat.{ℕ, ◌≤◌, ◌<◌}
 use mathlib.Core.Path.{◌≡◌, refl, sym, ◌∙◌}
+use mathlib.Core.Bool.{false, ◌||◌}
 use mathlib.Core.Logic.{inl}
 use mathlib.Core.List.{map}
 use native.Mathlib.Omega.{arith}
 use borrow.Author.Rules.{rules}
 use borrow.Author.Tests.{eqb-true, eqb-false, ltb-false, leb-false}
-use lib.Dec.{ltb}
+use lib.Dec.{leb, ltb}
 use lib.ListN.{length, get_or, length-map}
 use Rattle.rules.specs.Maps.{nodes_in, bytes_for, system_node}
 use Rattle.rules.proofs.Lists.{either_false}
@@ -16,8 +17,12 @@ use Rattle.maps.proofs.Keeping.{keeps_bad, keeps_next, keeps_end, keeps_none, ke
 use Rattle.maps.proofs.MapNodes.{nodes_le, fill_node}
 use Rattle.maps.proofs.turning.keep.Goals as goal
 
+-- a number that may come
+may_come : (a least len : ℕ) → (ltb a least || leb len a) ≡ false → (least ≤ a) × (a < len)
+may_come a least len e = let tests = either_false {a = ltb a least} e in (ltb-false a least tests.0, leb-false len a tests.1)
+
 pub loop-i-init : goal.loop-i-init
-loop-i-init c = (search rules, search rules, search rules, fill_none 64 255 _, refl)
+loop-i-init c = (search rules, search rules, fill_none 64 255 _, refl)
 
 pub returns-then-is_empty : goal.returns-then-is_empty
 returns-then-is_empty c =
@@ -27,26 +32,22 @@ pub returns-then-a-least : goal.returns-then-a-least
 returns-then-a-least c =
     let bad = keeps_bad c.args.len c.loop-i.least c.args.list.now c.loop-i.i c.loop-i-test.true c.if-a-least.true in
     keeps_some (nodes_in c.args.bytes.now) c.args.list.now c.requires.1 (eqb-false (length c.args.list.now) 0 (sym c.if-is_empty.ensures))
-    ∙ c.loop-i.invariant.4 ∙ bad
+    ∙ c.loop-i.invariant.3 ∙ bad
 
 pub bounds-out-i : goal.bounds-out-i
-bounds-out-i c = let may-come : (c.loop-i.least ≤ get_or c.args.list.now c.loop-i.i 0) × (get_or c.args.list.now c.loop-i.i 0 < c.args.len) ×
-    (c.args.len ≤ 64) = let n = get_or c.args.list.now c.loop-i.i 0 in let e = either_false {a = ltb n c.loop-i.least} c.if-a-least.false in
-    (ltb-false n c.loop-i.least e.0, leb-false c.args.len n e.1, omega (arith, nodes_le c.args.bytes.now)) in
-    omega (arith, may-come)
+bounds-out-i c =
+    omega (arith, may_come (get_or c.args.list.now c.loop-i.i 0) c.loop-i.least c.args.len c.if-a-least.false, nodes_le c.args.bytes.now)
 
 pub loop-i-preserved : goal.loop-i-preserved
-loop-i-preserved c = let may-come : (c.loop-i.least ≤ get_or c.args.list.now c.loop-i.i 0) × (get_or c.args.list.now c.loop-i.i 0 < c.args.len) ×
-    (c.args.len ≤ 64) = let n = get_or c.args.list.now c.loop-i.i 0 in let e = either_false {a = ltb n c.loop-i.least} c.if-a-least.false in
-    (ltb-false n c.loop-i.least e.0, leb-false c.args.len n e.1, omega (arith, nodes_le c.args.bytes.now)) in
-    let may = may-come in (
+loop-i-preserved c =
+    let may = may_come (get_or c.args.list.now c.loop-i.i 0) c.loop-i.least c.args.len c.if-a-least.false in
+    let few = nodes_le c.args.bytes.now in (
       omega arith,
       omega arith,
-      omega arith,
-      rw c.loop-i.invariant.3
+      rw c.loop-i.invariant.2
           (fill_node 64 255 (system_node (nodes_in c.args.bytes.now)) c.args.list.now c.loop-i.i c.node_at.result.0
           c.loop-i-test.true (omega arith) c.node_at.ensures),
-      c.loop-i.invariant.4 ∙ keeps_next c.args.len c.loop-i.least c.args.list.now c.loop-i.i c.loop-i-test.true may.0 may.1,
+      c.loop-i.invariant.3 ∙ keeps_next c.args.len c.loop-i.least c.args.list.now c.loop-i.i c.loop-i-test.true may.0 may.1,
     )
 
 pub returns : goal.returns
@@ -56,6 +57,6 @@ returns c =
     let long : length kept ≡ length c.args.list.now = length-map c.args.list.now (system_node (nodes_in c.args.bytes.now)) in
     let few : c.loop-i.i ≤ 64 = omega (arith, nodes_le c.args.bytes.now) in (
       keeps_some (nodes_in c.args.bytes.now) c.args.list.now c.requires.1 (eqb-false (length c.args.list.now) 0 (sym c.if-is_empty.ensures))
-          ∙ c.loop-i.invariant.4 ∙ keeps_end c.args.len c.loop-i.least c.args.list.now c.loop-i.i c.loop-i-test.false,
-      c.loop-i.invariant.3 ∙ fill_end 64 255 kept c.loop-i.i (omega arith) few (inl (omega arith)) ∙ fill_short 64 255 kept (omega arith),
+          ∙ c.loop-i.invariant.3 ∙ keeps_end c.args.len c.loop-i.least c.args.list.now c.loop-i.i c.loop-i-test.false,
+      c.loop-i.invariant.2 ∙ fill_end 64 255 kept c.loop-i.i (omega arith) few (inl (omega arith)) ∙ fill_short 64 255 kept (omega arith),
     )

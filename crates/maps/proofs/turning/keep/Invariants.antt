@@ -3,15 +3,14 @@
 use Prim.Native.Nat.{◌≤◌}
 use mathlib.Core.Path.{◌≡◌}
 use mathlib.Core.List.{map}
-use lib.ListN.{length, drop}
+use lib.ListN.{drop}
 use Rattle.rules.specs.Maps.{nodes_in, system_node}
 use Rattle.rules.proofs.Filled.{filled}
 use Rattle.maps.proofs.Keeping.{keeps}
 use Rattle.maps.proofs.turning.keep.Given as goal
 
 abbrev pub invariant-loop-i : goal.invariant-loop-i
-invariant-loop-i l = (l.i ≤ length l.list)
-    × (l.i ≤ l.least)
+invariant-loop-i l = (l.i ≤ l.least)
     × (l.least ≤ l.len)
     × (l.out ≡ filled 64 255 (map (system_node (nodes_in l.bytes)) l.list) l.i)
     × (keeps l.len 0 l.list ≡ keeps l.len l.least (drop l.i l.list))
