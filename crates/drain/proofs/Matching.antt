@@ -5,7 +5,6 @@ use mathlib.Core.Path.{◌≡◌, sym, ap, ◌∙◌}
 use mathlib.Core.Logic.{◌≢◌}
 use mathlib.Core.Bool.{true, false}
 use mathlib.Core.List.{List}
-use native.Mathlib.Decide.{ℕ_discrete}
 use native.Mathlib.Omega.{arith}
 use lib.ListN.{length, get_or, take, drop}
 use lib.Seq.{ext_get_or}
@@ -43,11 +42,3 @@ module _ (counts ledger free : List ℕ) where
   -- one is wrong
   pub match_not : (k : ℕ) → get_or free k 0 ≢ length (free_pages counts ledger k) → same free (free_counts counts ledger) ≡ false
   match_not k d = fails (λ e. d (ap (λ (f : List ℕ). get_or f k 0) (same_lists free (free_counts counts ledger) e) ∙ count_is counts ledger k))
-
--- one more is right
-pub right_next : (f g : ℕ → ℕ) (i : ℕ) → ((k : ℕ) → k < i → f k ≡ g k) → f i ≡ g i → (k : ℕ) → k < i + 1 → f k ≡ g k
-right_next f g i h e k l = go (ℕ_discrete k i)
-  where
-    go : Dec (k ≡ i) → f k ≡ g k
-    go (yes q) = rw q e
-    go (no q) = h k (omega arith)

@@ -115,11 +115,6 @@ pub some_if : (b : Bool) {x y : ℕ} → some x ≡ cond b (some y) none → (b 
 some_if true {x} {y} e = (refl, cc)
 some_if false e = absurd (let z : ◌≡◌ {A = ℕ} 0 1 = cc in omega arith)
 
--- and one that is not
-pub none_if : (b : Bool) (y : ℕ) → none ≡ cond b (some y) none → b ≡ false
-none_if true y e = absurd (let z : ◌≡◌ {A = ℕ} 0 1 = cc in omega arith)
-none_if false y e = refl
-
 -- a job that is met for the first time and may be moved, with no node passed over
 pub kept_first : {n : ℕ} {order jobs maps free : List ℕ} {b : ℕ} {limit : Mask} → may_move n jobs maps (b - 1) ≡ true
     → limit.0 ≡ limit_in jobs maps (b - 1) → Kept n order jobs maps free (record { limit = limit; from = 0 }) b

@@ -2,24 +2,23 @@
 -- Assumes nothing.
 use Prim.Native.Nat.{ℕ, suc, ◌+◌, ◌-◌, ◌≤◌, ◌<◌}
 use mathlib.Core.Path.{◌≡◌, refl, sym, ap, ap₂, ◌∙◌}
-use mathlib.Core.Logic.{◌≢◌}
 use mathlib.Core.Bool.{Bool, true, false, not, cond}
 use mathlib.Core.List.{List, [], ◌∷◌, ◌++◌, append_assoc, append-nil}
 use mathlib.Core.Option.{Option, none, some}
 use native.Mathlib.Nat.{add-zero}
 use native.Mathlib.Omega.{arith}
-use borrow.Author.Tests.{eq-eqb, ne_eqb, ltb-true}
+use borrow.Author.Tests.{eq-eqb, ne_eqb}
 use lib.Dec.{eqb}
 use lib.ListN.{length, get_or, set}
 use Rattle.rules.specs.Basics.{keep, each, from, sum}
 use Rattle.rules.specs.Machine.{first_page, pages_of}
 use Rattle.rules.specs.Masks.{most_nodes}
-use Rattle.rules.specs.SearchOrder.{free_pages, has_room, free_counts, counted}
+use Rattle.rules.specs.SearchOrder.{free_pages, free_counts}
 use Rattle.rules.specs.Decisions.{Decision, refuse, accept, unless, then}
 use Rattle.rules.specs.Calls.{Tables, Write, after_writes, after_stores, after_remaps, applied}
 use Rattle.rules.specs.Drain.{Move, held_pages, is_movable, goal, move_to, move_of, move_writes, move_recounts, moved, moves, recounts_of, draining}
 use Rattle.rules.proofs.Decisions.{not_accepted}
-use Rattle.rules.proofs.FreeCounts.{count_is, counted_room}
+use Rattle.rules.proofs.FreeCounts.{count_is}
 use Rattle.rules.proofs.Lists.{keep_agree, entry_same, length_from, sum_take_le, sum_take_suc}
 use Rattle.rules.proofs.Moves.{MoveIs, move_is, HeldPage, moved_length, others_kept, moved_matches, moves_cons, moves_nil}
 use Rattle.rules.proofs.Pages.{PageOf, member_page, page_lt}
@@ -229,15 +228,6 @@ module _ {counts distances : List ℕ} {x : ℕ} {start : Tables} {i : ℕ} {now
             others_kept held_here is_move p (record { start = omega arith; end = e }) (λ q. omega arith)
             ∙ r.bytes p (omega arith) e;
       }
-
-      -- what one move may count on
-      pub step_carries : (has_room counts now.ledger k ≡ true) × (k < length counts) × (k ≢ x) × (0 < get_or now.free k 0)
-      unfolding counted
-      step_carries =
-          let m = is_move in
-          let has : has_room counts now.ledger k ≡ true = m.first_room.passes in
-          let above : counted now.free k ≡ true = ap (λ (f : List ℕ). counted f k) r.matches ∙ counted_room counts now.ledger k ∙ has in
-          (has, m.target.node, m.target.other, ltb-true 0 (get_or now.free k 0) above)
 
     -- a page that has nowhere to go is 17
     refused_here : goal_here ≡ none → move_of counts distances now x (first_page counts x + i) ≡ refuse 17

@@ -6,26 +6,29 @@ use lib.ListN.{length}
 use Rattle.drain.proofs.Open.{none_met}
 use Rattle.drain.proofs.Passes.{AfterPage, after_page, pass_end}
 use Rattle.drain.proofs.goals.all_pass.Goals as goal
+use Rattle.drain.proofs.goals.all_pass.Goals.{After-pass}
 
 pub loop-byte-init : goal.loop-byte-init
-loop-byte-init c = (c.requires.1, none_met (length c.args.board.counts.now) c.args.board.order.now c.args.board.jobs.now c.args.board.maps.now c.args.free.now, omega arith, refl)
+loop-byte-init c = (c.requires.1, none_met _ _ _ _ _, omega arith, refl)
+
+-- what is known after one page
+after : (c : After-pass) → AfterPage (length c.args.board.counts.now) c.args.board.order.now c.args.board.jobs.now c.args.board.maps.now
+    c.args.board.x.0 c.args.part.now c.loop-byte.byte-index c.loop-byte.free c.pass.new.free c.pass.result
+after c = let b = c.args.board in
+    let e = c.pass.ensures in
+    after_page (length b.counts.now) b.order.now b.jobs.now b.maps.now b.x.0 c.args.part.now c.loop-byte.byte-index c.loop-byte.free _ c.pass.result
+    c.loop-byte-test.true c.loop-byte.invariant.0 e.stays e.stuck e.goes
 
 pub returns-then-not-pass : goal.returns-then-not-pass
-returns-then-not-pass c = let after : AfterPage (length c.args.board.counts.now) c.args.board.order.now c.args.board.jobs.now c.args.board.maps.now c.args.board.x.0 c.args.part.now c.loop-byte.byte-index
-    c.loop-byte.free c.pass.new.free c.pass.result = let e = c.pass.ensures in
-    after_page (length c.args.board.counts.now) c.args.board.order.now c.args.board.jobs.now c.args.board.maps.now c.args.board.x.0 c.args.part.now c.loop-byte.byte-index c.loop-byte.free _ c.pass.result
-    c.loop-byte-test.true c.loop-byte.invariant.0 e.stays e.stuck e.goes in
-    sym (sym c.loop-byte.invariant.3 ∙ after.stopped (c.if-not-pass.true))
+returns-then-not-pass c =
+    sym (sym c.loop-byte.invariant.3 ∙ (after (goal.at.returns-then-not-pass c).After-pass).stopped c.if-not-pass.true)
 
 pub loop-byte-preserved : goal.loop-byte-preserved
-loop-byte-preserved c = let after : AfterPage (length c.args.board.counts.now) c.args.board.order.now c.args.board.jobs.now c.args.board.maps.now c.args.board.x.0 c.args.part.now c.loop-byte.byte-index
-    c.loop-byte.free c.pass.new.free c.pass.result = let e = c.pass.ensures in
-    after_page (length c.args.board.counts.now) c.args.board.order.now c.args.board.jobs.now c.args.board.maps.now c.args.board.x.0 c.args.part.now c.loop-byte.byte-index c.loop-byte.free _ c.pass.result
-    c.loop-byte-test.true c.loop-byte.invariant.0 e.stays e.stuck e.goes in
+loop-byte-preserved c = let w = after (goal.at.loop-byte-preserved c).After-pass in
     let r = c.if-not-pass.false in
-    let w = after in
     (w.ordered r, c.pass.ensures.kept, omega (arith, w.counted r, c.loop-byte.invariant.2), sym (w.went r) ∙ c.loop-byte.invariant.3)
 
 pub returns : goal.returns
-returns c = sym (pass_end (length c.args.board.counts.now) c.args.board.order.now c.args.board.jobs.now c.args.board.maps.now c.args.board.x.0 c.args.part.now c.loop-byte.byte-index c.loop-byte.free
+returns c = let b = c.args.board in
+    sym (pass_end (length b.counts.now) b.order.now b.jobs.now b.maps.now b.x.0 c.args.part.now c.loop-byte.byte-index c.loop-byte.free
     c.loop-byte-test.false) ∙ c.loop-byte.invariant.3

@@ -4,13 +4,14 @@ use Prim.Native.Nat.{ℕ, ◌-◌, ◌<◌}
 use mathlib.Core.Path.{◌≡◌, refl, sym, ◌∙◌}
 use native.Mathlib.Omega.{arith}
 use lib.ListN.{length}
-use Rattle.drain.proofs.Open.{GoalIs, goal_is_lem, met_moved}
+use Rattle.drain.proofs.Open.{goal_is_lem, met_moved}
 use Rattle.drain.proofs.goals.pass.Goals as goal
 
 pub count_move-requires : goal.count_move-requires
 count_move-requires c = let o = c.requires.1 in
-    let g : GoalIs (length c.args.board.counts.now) c.args.board.x.0 c.args.board.jobs.now c.args.board.maps.now c.args.free.now (c.args.byte - 1) c.in-Some.node.0 =
-    goal_is_lem (length c.args.board.counts.now) c.args.board.x.0 c.args.board.order.now c.args.board.jobs.now c.args.board.maps.now c.args.free.now (c.args.byte - 1) _ o (sym c.in-Some.ensures.goes) in
+    let b = c.args.board in
+    let g = goal_is_lem (length b.counts.now) b.x.0 b.order.now b.jobs.now b.maps.now c.args.free.now (c.args.byte - 1) c.in-Some.node.0 o
+    (sym c.in-Some.ensures.goes) in
     (omega (arith, o.one_each, o.node), omega (arith, o.one_each, g.node), g.other, g.above, c.requires.3)
 
 -- its move is counted

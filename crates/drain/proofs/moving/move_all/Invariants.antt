@@ -8,6 +8,7 @@ use Rattle.drain.proofs.Going.{Gone}
 use Rattle.drain.proofs.moving.move_all.Given as goal
 
 abbrev pub invariant-loop-page : goal.invariant-loop-page
-invariant-loop-page l = Gone l.board.counts.now l.board.order.now l.board.x.0 (tables_of l.initial.pages l.board.jobs.now l.initial.free l.board.maps.now) l.initial.out l.page
-    (tables_of l.pages l.board.jobs.now l.free l.board.maps.now) l.at l.out
-    × Met (length l.board.counts.now) l.board.order.now l.board.jobs.now l.board.maps.now l.free l.met × Hints l.board.counts.now l.pages l.hints
+invariant-loop-page l = let b = l.board in
+    Gone b.counts.now b.order.now b.x.0 (tables_of l.initial.pages b.jobs.now l.initial.free b.maps.now) l.initial.out l.page
+    (tables_of l.pages b.jobs.now l.free b.maps.now) l.at l.out
+    × Met (length b.counts.now) b.order.now b.jobs.now b.maps.now l.free l.met × Hints b.counts.now l.pages l.hints
