@@ -58,7 +58,7 @@ impl Ranks {
         Ranks(self.0 | (1u64 << rank.0))
     }
 
-    // The ranks mod w: the whole set shifted by w, twice w, four times w, .. is laid over it.
+    // The ranks mod w: the whole set shifted by w, twice w, four times w, .. is laid over it. A `while`, since the step doubles.
     fn wrapped(self, w: u32) -> Ranks
         requires { (0 < w) × (w ≤ most_nodes) }
         ensures { result.0 ≡ wrapped w self.0 }
@@ -203,7 +203,7 @@ impl Mask {
         Mask(self.0 & (self.0 - 1))
     }
 
-    // The ranks of the mask's nodes in a set.
+    // The ranks of the mask's nodes in a set. A `while`: the mask itself is used up, node by node, and no index is counted.
     pub fn ranks_in(self, set: Mask) -> Ranks
         ensures { result.0 ≡ ranks_in set.0 self.0 }
     {
@@ -216,7 +216,7 @@ impl Mask {
         out
     }
 
-    // The nodes of the mask whose ranks are among these: node by node, each takes the next bit.
+    // The nodes of the mask whose ranks are among these: node by node, each takes the next bit. A `while`, as in `ranks_in`.
     pub fn ranked(self, ranks: Ranks) -> Mask
         ensures { result.0 ≡ ranked_in self.0 ranks.0 }
     {

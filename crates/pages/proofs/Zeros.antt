@@ -3,7 +3,7 @@
 use Prim.Native.Nat.{ℕ, zero, suc, ◌+◌, ◌≤◌, ◌<◌}
 use mathlib.Core.Path.{◌≡◌, refl}
 use mathlib.Core.Bool.{Bool, true, false, cond}
-use mathlib.Core.List.{List, [], ◌∷◌}
+use mathlib.Core.List.{List, [], ◌∷◌, ◌++◌}
 use native.Mathlib.Numerals.{add-one}
 use native.Mathlib.Omega.{arith}
 use lib.Dec.{eqb}
@@ -31,10 +31,9 @@ zeros_most (x ∷ xs) = go (eqb x 0) (zeros_most xs)
     go false l = omega arith
 
 -- a block, and what comes after it
-pub zeros_split : (k : ℕ) (xs : List ℕ) → zeros (take k xs) + zeros (drop k xs) ≡ zeros xs
-zeros_split zero xs = omega arith
-zeros_split (suc k) [] = refl
-zeros_split (suc k) (x ∷ xs) = omega (arith, zeros_split k xs)
+pub zeros_append : (xs ys : List ℕ) → zeros (xs ++ ys) ≡ zeros xs + zeros ys
+zeros_append [] ys = omega arith
+zeros_append (x ∷ xs) ys = omega (arith, zeros_append xs ys)
 
 -- of the k pages from a on, as many are free as bytes of the part are 0
 pub zeros_free : (ledger : List ℕ) (a k : ℕ) → a + k ≤ length ledger

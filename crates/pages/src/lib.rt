@@ -3,7 +3,7 @@
 
 #![tactic(auto)]
 
-ghost use Rattle.std.specs.Prelude.{◌≡◌, false, true, not, cond, ℕ, ◌+◌, ◌^◌, ◌%◌, ◌≤◌, ◌<◌, eqb, length, get_or, take, drop};
+ghost use Rattle.std.specs.Prelude.{◌≡◌, false, not, cond, ℕ, min, ◌+◌, ◌^◌, ◌%◌, ◌≤◌, ◌<◌, eqb, length, get_or, drop};
 ghost use Rattle.rules.specs.Basics.{first, is_nil};
 ghost use Rattle.pages.specs.FirstZero.{offset_of, shift, first_zero, mark, has_zero, zero_or_end, zeros};
 ghost use Rattle.pages.specs.Colours.{is_free, free_from, free_of, pick_of, HeldBefore, Clears, HeldUnder};
@@ -35,12 +35,11 @@ fn has_zero(block: &[u8]) -> bool
     any
 }
 
-// Passes over whole blocks that have no 0, from an index on: up to one that has, or too few bytes for a block.
+// Passes over whole blocks that have no 0, from an index on. A `while`: it goes by blocks, and the index that it stops at is the answer.
 fn skip(part: &[u8], from: usize, block: usize) -> usize
     requires { (from ≤ length part.now) × (0 < block) }
     ensures within { result ≤ length part.now }
     ensures same { shift from (first_zero (drop from part.now)) ≡ shift result (first_zero (drop result part.now)) }
-    ensures stops { result + block ≤ length part.now → has_zero (take block (drop result part.now)) ≡ true }
 {
     let mut i = from;
     while block <= part.len() - i {
@@ -56,8 +55,8 @@ fn skip(part: &[u8], from: usize, block: usize) -> usize
 
 // Where a block of so many bytes ends, or of those that are left.
 fn block_end(len: usize, from: usize, size: usize) -> usize
-    requires { (from < len) × (0 < size) }
-    ensures { (from < result) × (result ≤ len) × (result ≤ from + size) }
+    requires { from ≤ len }
+    ensures { result ≡ min len (from + size) }
 {
     if len - from < size {
         return len;
@@ -75,15 +74,16 @@ fn index_of_zero(byte: u8, index: u8, none: u8) -> u8
     none
 }
 
-// The index of the lowest 0 of a block, or its length. There is no early exit, so that it is compiled to vectors.
+// The index of the lowest 0 of a block, or its length. There is no early exit, so that it is compiled to vectors, and it is counted in a
+// byte, as the lanes are.
 fn lowest_zero(block: &[u8]) -> usize
     requires { length block.now ≤ 16 }
     ensures { result ≡ zero_or_end block.now }
 {
     let len = block.len() as u8;
     let mut lowest = len;
-    for (i, byte) in block.iter().enumerate() {
-        lowest = lowest.min(index_of_zero(*byte, i as u8, len));
+    for i in 0..len {
+        lowest = lowest.min(index_of_zero(block[i as usize], i, len));
     }
     lowest as usize
 }
@@ -108,10 +108,16 @@ fn first_free(part: &[u8], from: usize) -> Option<Offset>
     }
     let wide = skip(part, from, 128);
     let narrow = skip(part, wide, 16);
-    let end = part.len().min(narrow + 16);
-    let at = narrow + lowest_zero(&part[narrow..end]);
-    if at < end {
-        return Some(Offset(at));
+    let mut i = narrow;
+
+    // Tried with `step_by`, and as one block with no loop: 3 ns more for each search, or 12 ns more where the last bytes are no whole block.
+    while i < part.len() {
+        let end = block_end(part.len(), i, 16);
+        let at = i + lowest_zero(&part[i..end]);
+        if at < end {
+            return Some(Offset(at));
+        }
+        i = end;
     }
     None
 }
@@ -150,11 +156,8 @@ pub fn count_free(part: &[u8]) -> usize
     ensures { result ≡ zeros part.now }
 {
     let mut count = 0;
-    let mut i = 0;
-    while i < part.len() {
-        let end = block_end(part.len(), i, 128);
-        count += zeros_in(&part[i..end]) as usize;
-        i = end;
+    for block in part.chunks(128) {
+        count += zeros_in(block) as usize;
     }
     count
 }
@@ -213,7 +216,7 @@ fn has_clear(block: &[u8], mask: &[u8; 16]) -> bool
     any
 }
 
-// Passes over blocks of 128 that have no 0 at the mask's colour, from an index on.
+// Passes over blocks of 128 that have no 0 at the mask's colour, from an index on. A `while`, as in `skip`.
 fn skip_masked(part: &[u8], from: usize, mask: &[u8; 16]) -> usize
     requires { (from ≤ length part.now) × (from % 4 ≡ 0) }
     ensures within { (result ≤ length part.now) × (result % 4 ≡ 0) }
@@ -238,10 +241,14 @@ fn first_coloured(part: &[u8], from: usize, colour: usize) -> Option<Offset>
 {
     let mask = mask_of(colour);
     let start = skip_masked(part, from, &mask);
-    for at in (start + colour..part.len()).step_by(4) {
+    let mut at = start + colour;
+
+    // Tried with `step_by`: it makes a second test in each turn, which takes 3 to 5 ns of 28.
+    while at < part.len() {
         if part[at] == 0 {
             return Some(Offset(at));
         }
+        at += 4;
     }
     None
 }

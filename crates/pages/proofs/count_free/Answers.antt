@@ -1,19 +1,19 @@
 -- `count_free` meets its contract.
 -- Assumes nothing.
-use Prim.Native.Nat.{◌+◌, ◌-◌}
-use mathlib.Core.Path.{◌≡◌}
-use native.Mathlib.Omega.{arith}
-use borrow.Author.Rules.{rules}
-use lib.ListN.{drop}
-use lib.Seq.{drop-drop}
-use Rattle.pages.proofs.Zeros.{zeros_split, zeros_most}
+use Rattle.std.proofs.Common.{◌≡◌, ◌+◌, ◌∙◌, ap, arith}
+use Rattle.std.specs.Slice.Iter.{chunks_rest}
+use Rattle.pages.specs.FirstZero.{zeros}
+use Rattle.pages.proofs.Zeros.{zeros_append, zeros_most}
 use Rattle.pages.proofs.count_free.Goals as goal
 
 pub overflow_add-count : goal.overflow_add-count
-overflow_add-count c = let most = zeros_most c.args.part.now in
-    search rules
+overflow_add-count c =
+    let split : zeros (chunks_rest c.loop-block.block-iterator) ≡ zeros c.in-Some.block.now + zeros (chunks_rest c.next.new.self) =
+    ap zeros c.in-Some.ensures.steps.1.0 ∙ zeros_append c.in-Some.block.now _ in
+    record { fits = omega (arith, split, zeros_most c.args.part.now) }
 
-pub loop-i-preserved : goal.loop-i-preserved
-loop-i-preserved c = let end : c.loop-i.i + (c.block_end-end.result - c.loop-i.i) ≡ c.block_end-end.result = omega (arith, c.block_end-end.ensures) in
-    let split = rw (drop-drop, end) at (zeros_split (c.block_end-end.result - c.loop-i.i) (drop c.loop-i.i c.args.part.now)) in
-    (search rules, omega (arith, split, c.loop-i.invariant.1, c.zeros_in.ensures))
+pub loop-block-preserved : goal.loop-block-preserved
+loop-block-preserved c =
+    let split : zeros (chunks_rest c.loop-block.block-iterator) ≡ zeros c.in-Some.block.now + zeros (chunks_rest c.next.new.self) =
+    ap zeros c.in-Some.ensures.steps.1.0 ∙ zeros_append c.in-Some.block.now _ in
+    (c.in-Some.ensures.steps.0 ∙ c.loop-block.invariant.0, omega (arith, split))

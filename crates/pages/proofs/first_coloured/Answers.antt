@@ -27,10 +27,3 @@ loop-at-preserved c = (
 pub returns : goal.returns
 unfolding first
 returns c = sym (ap first (c.loop-at.invariant.1 ∙ of_end c.args.colour c.args.part.now c.loop-at.at c.loop-at-test.false))
-
-pub returns-else-part-at-eq0 : goal.returns-else-part-at-eq0
-unfolding first
-returns-else-part-at-eq0 c = sym
-    (ap first
-    (c.loop-at.invariant.1 ∙ of_stride c.args.colour c.args.part.now c.loop-at.at c.loop-at.invariant.0 c.if-part-at-eq0.false
-    ∙ of_end c.args.colour c.args.part.now (c.loop-at.at + 4) (omega arith)))
