@@ -102,7 +102,7 @@ pub fn rebind_at(nodes: usize, jobs: &mut [u64], job: usize, allowed: u64) -> An
         return Answer::Refused(Refusal::NothingAllowed);
     }
     let next = old.job().rebound(new).as_record();
-    if next.effective.is_empty() & !(next.flag == 1) & !next.user.is_empty() {
+    if next.effective.is_empty() & (next.flag != 1) & !next.user.is_empty() {
         return Answer::Refused(Refusal::NothingEffective);
     }
     table::store(jobs, job, next);
@@ -137,13 +137,12 @@ pub fn install(
     if !table::mapped_ok(nodes, jobs.len(), maps.len()) {
         return Answer::Refused(Refusal::BadTables);
     }
-    let first = words::padded(places);
     let policy = AppPolicy {
         mode,
         flag,
         user: mask,
         len: places.len(),
-        places: first,
+        places: words::padded(places),
     };
     install_at(nodes, jobs, maps, job, policy)
 }
