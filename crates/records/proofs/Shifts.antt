@@ -7,7 +7,7 @@ use mathlib.Core.List.{List, [], ◌++◌, append-nil}
 use native.Mathlib.Nat.{mod-eq_of_lt, div-one}
 use native.Mathlib.Omega.{arith}
 use borrow.Author.Tests.{eqb-true, eq-eqb}
-use lib.Bits.{bit_and, bit_or, and_mask, or_shifted_r}
+use lib.Bits.{bit_or, or_shifted_r}
 use lib.Dec.{eqb}
 use lib.ListN.{length, take, drop, length-drop, length-append, drop_of_length-le}
 use lib.Pow.{shr_lt, shr-shr}
@@ -19,10 +19,6 @@ use Rattle.std.proofs.lemmas.Nat.{le_bytes_8}
 use Rattle.rules.proofs.Bytes.{from_bytes_lem, AreBytes, bytes_length}
 use Rattle.rules.proofs.Lists.{both_true, both_hold, same_test}
 use Rattle.rules.proofs.Records.{places_again}
-
--- a shift and a mask read a byte
-pub masked : (w k : ℕ) → bit_and (w / 2 ^ (8 * k)) 255 ≡ w / 2 ^ (8 * k) % 256
-masked w k = and_mask (w / 2 ^ (8 * k)) 8
 
 -- a shift and an `|` put a above b, which has k bits
 pub joined : (a b k : ℕ) → b < 2 ^ k → a * 2 ^ k < 2 ^ 64 → bit_or b ((a * 2 ^ k) % 2 ^ 64) ≡ b + a * 2 ^ k
