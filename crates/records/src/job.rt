@@ -38,7 +38,7 @@ pub struct Job {
 }
 
 impl Flag {
-    // The flag of a known number.
+    // The flag of a known number. No `TryFrom`, which would be no plainer: who calls knows the number, and an `Err` could not come.
     pub fn of(number: u8) -> Flag
         ensures { flag_known (flag_of number) ≡ true → flag_number result ≡ number }
     {
@@ -87,7 +87,8 @@ impl From<Flag> for u8 {
 }
 
 impl Mode {
-    // The mode of a well-formed record.
+    // The mode of a well-formed record. No `From`, since of another record it says nothing, and no `TryFrom`: that the record is well
+    // formed is tested before.
     pub fn of(from: Record) -> Mode
         ensures { (n : ℕ) → well_formed n (record_of from) ≡ true → carried_in result ≡ carried_of (record_of from) }
     {

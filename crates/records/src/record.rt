@@ -33,7 +33,7 @@ pub enum Cursor {
 pub struct Row(pub Carries, pub Cursor);
 
 impl Row {
-    // The row of a mode's number.
+    // The row of a mode's number: an arm for each row, as in the table, which a `From` or joined arms would make no plainer.
     pub fn of(mode: u64) -> Row
         ensures { row_in result ≡ row_of (mode_of mode) }
     {

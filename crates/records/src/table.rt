@@ -44,13 +44,13 @@ pub fn load(jobs: &[u64], job: usize) -> Record
     let start = WORDS_PER_JOB * job;
     let end = start + WORDS_PER_JOB;
     let held = &jobs[start..end];
-    let [mode, flag, len, cursor, ..] = held[0].to_le_bytes();
+    let word = held[0];
     Record {
-        mode,
-        flag,
-        len,
-        cursor,
-        rest: (held[0] >> 32) as u32,
+        mode: words::byte(word, 0),
+        flag: words::byte(word, 1),
+        len: words::byte(word, 2),
+        cursor: words::byte(word, 3),
+        rest: (word >> 32) as u32,
         user: Mask(held[1]),
         allowed: Mask(held[2]),
         effective: Mask(held[3]),

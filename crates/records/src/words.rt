@@ -5,7 +5,7 @@ ghost use Rattle.rules.specs.Records.{places_per_job, bytes_of, from_bytes};
 
 use rules::{PLACES_PER_JOB, Place};
 
-// Byte k of a word, lowest first.
+// Byte k of a word, lowest first. By a shift and a mask, as `head`, and not by `to_le_bytes`: so a rule of the project has it for word 0.
 pub fn byte(word: u64, k: usize) -> u8
     requires { k < 8 }
     ensures { result ≡ word / 2 ^ (8 * k) % 256 }
@@ -17,7 +17,7 @@ pub fn byte(word: u64, k: usize) -> u8
 pub fn head(mode: u8, flag: u8, len: u8, cursor: u8) -> u64
     ensures { result ≡ mode + flag * 2 ^ 8 + len * 2 ^ 16 + cursor * 2 ^ 24 }
 {
-    u32::from_le_bytes([mode, flag, len, cursor]) as u64
+    (mode as u64) | ((flag as u64) << 8) | ((len as u64) << 16) | ((cursor as u64) << 24)
 }
 
 // The sixteen places of words 4 and 5.
