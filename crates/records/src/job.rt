@@ -38,7 +38,7 @@ pub struct Job {
 }
 
 impl Flag {
-    // The flag of a known number.
+    // The flag of a known number. No `TryFrom`, which would be no plainer: who calls knows the number, and an `Err` could not come.
     pub fn of(number: u8) -> Flag
         ensures { flag_known (flag_of number) ≡ true → flag_number result ≡ number }
     {
@@ -49,25 +49,13 @@ impl Flag {
         }
     }
 
-    // The number of the flag.
-    fn number(self) -> u8
-        ensures { result ≡ flag_number self }
-    {
-        match self {
-            Flag::Plain => 0,
-            Flag::Static => 1,
-            Flag::Relative => 2,
-        }
-    }
-
     // "Effective: user and allowed (flags 0, 1) or folded (2)"
     pub fn effective(self, user: Mask, allowed: Mask) -> Mask
         requires { 0 < allowed.0 }
         ensures { result.0 ≡ effective_at_install (flag_of (flag_number self)) user.0 allowed.0 }
     {
         match self {
-            Flag::Plain => user.both(allowed),
-            Flag::Static => user.both(allowed),
+            Flag::Plain | Flag::Static => user.both(allowed),
             Flag::Relative => user.folded(allowed),
         }
     }
@@ -85,22 +73,41 @@ impl Flag {
     }
 }
 
+// The number of a flag.
+impl From<Flag> for u8 {
+    fn from(flag: Flag) -> u8
+        ensures { result ≡ flag_number flag }
+    {
+        match flag {
+            Flag::Plain => 0,
+            Flag::Static => 1,
+            Flag::Relative => 2,
+        }
+    }
+}
+
 impl Mode {
-    // The mode of a well-formed record.
+    // The mode of a well-formed record. No `From`, since of another record it says nothing, and no `TryFrom`: that the record is well
+    // formed is tested before.
     pub fn of(from: Record) -> Mode
         ensures { (n : ℕ) → well_formed n (record_of from) ≡ true → carried_in result ≡ carried_of (record_of from) }
     {
-        let number = from.mode;
+        let Record {
+            mode,
+            len,
+            cursor,
+            user,
+            effective,
+            ..
+        } = from;
         let flag = Flag::of(from.flag);
-        let user = from.user;
-        let effective = from.effective;
-        match number {
+        match mode {
             1 => Mode::Preferred(flag, user, effective),
             2 => Mode::Bind(flag, user, effective),
-            3 => Mode::Interleave(flag, user, effective, from.cursor),
-            4 => Mode::List(from.len),
-            5 => Mode::Ring(from.len, from.cursor),
-            6 => Mode::Early(from.len, from.cursor),
+            3 => Mode::Interleave(flag, user, effective, cursor),
+            4 => Mode::List(len),
+            5 => Mode::Ring(len, cursor),
+            6 => Mode::Early(len, cursor),
             _ => Mode::Default,
         }
     }
@@ -111,7 +118,6 @@ impl Mode {
         ensures { (ps : List ℕ) → record_with (carried_in result) new.0 ps ≡ rebound (record_with (carried_in self) old.0 ps) new.0 }
     {
         match self {
-            Mode::Default => Mode::Default,
             Mode::Preferred(flag, user, effective) => {
                 Mode::Preferred(flag, user, flag.rebound(user, effective, old, new))
             }
@@ -121,9 +127,7 @@ impl Mode {
             Mode::Interleave(flag, user, effective, cursor) => {
                 Mode::Interleave(flag, user, flag.rebound(user, effective, old, new), cursor)
             }
-            Mode::List(len) => Mode::List(len),
-            Mode::Ring(len, cursor) => Mode::Ring(len, cursor),
-            Mode::Early(len, cursor) => Mode::Early(len, cursor),
+            Mode::Default | Mode::List(_) | Mode::Ring(_, _) | Mode::Early(_, _) => self,
         }
     }
 }
@@ -148,8 +152,7 @@ impl Job {
         requires { 0 < new.0 }
         ensures { job_of result ≡ rebound (job_of self) new.0 }
     {
-        let mode = self.mode;
-        let mode = mode.rebound(self.allowed, new);
+        let mode = self.mode.rebound(self.allowed, new);
         let places = self.places;
         Job {
             mode,
@@ -162,8 +165,11 @@ impl Job {
     fn with(self, mode: u8, flag: u8, len: u8, cursor: u8, user: Mask, effective: Mask) -> Record
         ensures { record_of result ≡ record_with (carried mode flag len cursor user.0 effective.0) self.allowed.0 self.places }
     {
-        let allowed = self.allowed;
-        let places = self.places;
+        let Job {
+            allowed,
+            places,
+            ..
+        } = self;
         Record {
             mode,
             flag,
@@ -182,13 +188,12 @@ impl Job {
     pub fn as_record(self) -> Record
         ensures { record_of result ≡ job_of self }
     {
-        let mode = self.mode;
         let none = Mask::EMPTY;
-        match mode {
+        match self.mode {
             Mode::Default => self.with(0, 0, 0, 0, none, none),
-            Mode::Preferred(flag, u, e) => self.with(1, flag.number(), 0, 0, u, e),
-            Mode::Bind(flag, u, e) => self.with(2, flag.number(), 0, 0, u, e),
-            Mode::Interleave(flag, u, e, cursor) => self.with(3, flag.number(), 0, cursor, u, e),
+            Mode::Preferred(flag, u, e) => self.with(1, u8::from(flag), 0, 0, u, e),
+            Mode::Bind(flag, u, e) => self.with(2, u8::from(flag), 0, 0, u, e),
+            Mode::Interleave(flag, u, e, cursor) => self.with(3, u8::from(flag), 0, cursor, u, e),
             Mode::List(len) => self.with(4, 0, len, 0, none, none),
             Mode::Ring(len, cursor) => self.with(5, 0, len, cursor, none, none),
             Mode::Early(len, cursor) => self.with(6, 0, len, cursor, none, none),

@@ -100,7 +100,7 @@ pub fn rebind_at(nodes: usize, jobs: &mut [u64], job: usize, allowed: u64) -> An
         return Err(Refusal::NothingAllowed);
     }
     let next = old.job().rebound(new).as_record();
-    if next.effective.is_empty() & !(next.flag == 1) & !next.user.is_empty() {
+    if next.effective.is_empty() & (next.flag != 1) & !next.user.is_empty() {
         return Err(Refusal::NothingEffective);
     }
     table::store(jobs, job, next);
@@ -135,13 +135,12 @@ pub fn install(
     if !table::mapped_ok(nodes, jobs.len(), maps.len()) {
         return Err(Refusal::BadTables);
     }
-    let first = words::padded(places);
     let policy = AppPolicy {
         mode,
         flag,
         user: mask,
         len: places.len(),
-        places: first,
+        places: words::padded(places),
     };
     install_at(nodes, jobs, maps, job, policy)
 }

@@ -40,12 +40,10 @@ impl AppPolicy {
     pub fn known(self) -> bool
         ensures { (ps : List ℕ) → result ≡ policy_known (asked self ps) }
     {
-        let holds = Row::of(self.mode).0;
-        match holds {
-            Carries::Nothing => self.flag == 0,
+        match Row::of(self.mode).0 {
+            Carries::Nothing | Carries::AList => self.flag == 0,
             Carries::AMask => (self.flag <= 2)
                 & ((self.flag == 0) | !((self.mode == 1) & (self.user == 0))),
-            Carries::AList => self.flag == 0,
             Carries::Unknown => false,
         }
     }
@@ -84,10 +82,11 @@ impl AppPolicy {
     {
         let asked = self.places;
         let places = turning::turned_places(bytes, entries, asked, self.len);
-        let mut user = Mask(self.user);
-        if self.flag != 2 {
-            user = turning::turned_mask(bytes, entries, self.user);
-        }
+        let user = if self.flag == 2 {
+            Mask(self.user)
+        } else {
+            turning::turned_mask(bytes, entries, self.user)
+        };
         Policy {
             mode: self.mode,
             flag: self.flag,
@@ -111,9 +110,8 @@ impl Policy {
     pub fn fits(self, nodes: usize, allowed: Mask) -> bool
         ensures { (ps : List ℕ) → length ps ≡ self.len → result ≡ policy_fits (carries (mode_of self.mode)) nodes allowed.0 (stands self ps) }
     {
-        let holds = Row::of(self.mode).0;
         let none = self.user.is_empty();
-        match holds {
+        match Row::of(self.mode).0 {
             Carries::Nothing => none & (self.len == 0),
             Carries::AMask => ((self.mode == 1) | !none)
                 & self.mask_fits(nodes, allowed)

@@ -33,7 +33,7 @@ pub enum Cursor {
 pub struct Row(pub Carries, pub Cursor);
 
 impl Row {
-    // The row of a mode's number.
+    // The row of a mode's number: an arm for each row, as in the table, which a `From` or joined arms would make no plainer.
     pub fn of(mode: u64) -> Row
         ensures { row_in result ≡ row_of (mode_of mode) }
     {
@@ -99,8 +99,7 @@ impl Record {
         ensures { result ≡ cursor_fits nodes (record_of self) }
     {
         let cursor = self.cursor as usize;
-        let kind = Row::of(self.mode as u64).1;
-        match kind {
+        match Row::of(self.mode as u64).1 {
             Cursor::NoCursor => cursor <= 0,
             Cursor::ANode => cursor <= nodes,
             Cursor::APlace => cursor <= (self.len as usize),
@@ -119,10 +118,12 @@ impl Record {
         requires { 0 < self.allowed.0 }
         ensures { result ≡ effective_fits nodes (record_of self) (flag_of self.flag) }
     {
-        let flag = self.flag;
-        let user = self.user;
-        let effective = self.effective;
-        match flag {
+        let Record {
+            user,
+            effective,
+            ..
+        } = self;
+        match self.flag {
             0 => user.below(nodes) & !effective.is_empty() & effective.within(self.allowed),
             1 => user.below(nodes) & (effective.0 == user.both(self.allowed).0),
             2 => effective.0 == user.folded(self.allowed).0,
@@ -146,9 +147,8 @@ impl Record {
         requires { (self.mode ≡ 0) ⊎ (0 < self.allowed.0) }
         ensures { result ≡ data_fits nodes (record_of self) (carries (mode_of self.mode)) }
     {
-        let holds = Row::of(self.mode as u64).0;
         let len = self.len as usize;
-        match holds {
+        match Row::of(self.mode as u64).0 {
             Carries::Nothing => self.no_masks() & (len == 0),
             Carries::AMask => self.masks_fit(nodes) & (len == 0),
             Carries::AList => self.no_masks() & ((1 <= len) & (len <= PLACES_PER_JOB)),
@@ -170,13 +170,10 @@ impl Record {
     pub fn job(self) -> Job
         ensures { (n : ℕ) → well_formed n (record_of self) ≡ true → job_of result ≡ record_of self }
     {
-        let mode = Mode::of(self);
-        let allowed = self.allowed;
-        let places = words::unpack(self.low, self.high);
         Job {
-            mode,
-            allowed,
-            places,
+            mode: Mode::of(self),
+            allowed: self.allowed,
+            places: words::unpack(self.low, self.high),
         }
     }
 

@@ -5,7 +5,7 @@ ghost use Rattle.rules.specs.Records.{places_per_job, bytes_of, from_bytes};
 
 use rules::{PLACES_PER_JOB, Place};
 
-// Byte k of a word, lowest first.
+// Byte k of a word, lowest first. By a shift and a mask, as `head`, and not by `to_le_bytes`: so a rule of the project has it for word 0.
 pub fn byte(word: u64, k: usize) -> u8
     requires { k < 8 }
     ensures { result ≡ word / 2 ^ (8 * k) % 256 }
@@ -25,12 +25,8 @@ pub fn unpack(low: u64, high: u64) -> [u8; PLACES_PER_JOB]
     ensures { result ≡ bytes_of 8 low ++ bytes_of 8 high }
 {
     let mut out = [0u8; PLACES_PER_JOB];
-    let mut i: usize = 0;
-    while i < 8 {
-        out[i] = byte(low, i);
-        out[i + 8] = byte(high, i);
-        i += 1;
-    }
+    out[..8].copy_from_slice(&low.to_le_bytes());
+    out[8..].copy_from_slice(&high.to_le_bytes());
     out
 }
 
@@ -40,13 +36,9 @@ pub fn pack(places: [u8; PLACES_PER_JOB], from: Place) -> u64
     ensures { result ≡ from_bytes (take 8 (drop from.0 places)) }
 {
     let start = from.0 as usize;
-    let mut word: u64 = 0;
-    let mut i: usize = 8;
-    while 0 < i {
-        i -= 1;
-        word = (word << 8) | (places[start + i] as u64);
-    }
-    word
+    let mut bytes = [0u8; 8];
+    bytes.copy_from_slice(&places[start..start + 8]);
+    u64::from_le_bytes(bytes)
 }
 
 // The first sixteen of a list of places; zeros past its end.

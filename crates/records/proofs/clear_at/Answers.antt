@@ -2,8 +2,6 @@
 -- Assumes nothing.
 use mathlib.Core.Bool.{true}
 use mathlib.Core.Path.{◌≡◌, sym, ◌∙◌}
-use borrow.Author.Rules.{rules}
-use borrow.Author.Tests.{ltb-true, not-true, not-false}
 use Rattle.rules.specs.Calls.{is_job, after_writes, after_stores, after_remaps, applied, clear_decision, on_clear}
 use Rattle.records.proofs.clear_at.Goals as goal
 

@@ -1,8 +1,6 @@
 -- `install` does what the rules say, for all inputs.
 -- Assumes nothing.
-use mathlib.Core.Path.{refl, sym, ◌∙◌}
-use borrow.Author.Rules.{rules}
-use borrow.Author.Tests.{not-true, not-false}
+use mathlib.Core.Path.{sym, ◌∙◌}
 use Rattle.rules.specs.Calls.{applied, on_install, install_decision}
 use Rattle.records.proofs.install.Goals as goal
 

@@ -1,8 +1,6 @@
 -- `rebind` does what the rules say, for all inputs.
 -- Assumes nothing.
 use mathlib.Core.Path.{sym, ◌∙◌}
-use borrow.Author.Rules.{rules}
-use borrow.Author.Tests.{not-true, not-false}
 use Rattle.rules.specs.Calls.{applied, on_rebind, rebind_decision}
 use Rattle.records.proofs.rebind.Goals as goal
 

@@ -1,8 +1,6 @@
 -- `keep_nodes` does what the rules say, for all inputs.
 -- Assumes nothing.
 use mathlib.Core.Path.{sym, ◌∙◌}
-use borrow.Author.Rules.{rules}
-use borrow.Author.Tests.{not-true, not-false}
 use Rattle.rules.specs.Calls.{applied, keep_decision, on_keep}
 use Rattle.records.proofs.mapping.keep_nodes.Goals as goal
 

@@ -1,8 +1,6 @@
 -- `set_map` does what the rules say, for all inputs.
 -- Assumes nothing.
 use mathlib.Core.Path.{sym, ◌∙◌}
-use borrow.Author.Rules.{rules}
-use borrow.Author.Tests.{not-true, not-false}
 use Rattle.rules.specs.Calls.{applied, set_map_decision, on_set_map}
 use Rattle.records.proofs.mapping.set_map.Goals as goal
 

@@ -1,7 +1,6 @@
 -- `zero_from` shifts the places before one out of its word.
 -- Assumes nothing.
 use native.Mathlib.Omega.{arith}
-use borrow.Author.Rules.{rules}
 use Rattle.records.proofs.Shifts.{zero_low, zero_high, zero_past}
 use Rattle.records.proofs.record.zero_from.Goals as goal
 

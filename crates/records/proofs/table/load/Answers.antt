@@ -1,8 +1,6 @@
 -- `load` reads the record of a job.
 -- Assumes nothing.
 use native.Mathlib.Nat.{add-sub_cancel_left, div-one}
-use native.Mathlib.Omega.{arith}
-use borrow.Author.Rules.{rules}
 use Rattle.rules.specs.Records.{decode, record_at}
 use Rattle.records.specs.Jobs.{record_of}
 use Rattle.records.proofs.table.load.Goals as goal

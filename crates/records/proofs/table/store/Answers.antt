@@ -3,8 +3,6 @@
 use Prim.Native.Nat.{◌+◌, ◌*◌, ◌^◌}
 use native.Mathlib.Numerals.{towards_suc}
 use native.Mathlib.Omega.{arith}
-use borrow.Author.Rules.{rules}
-use lib.ListN.{length-set}
 use lib.Seq.{take_at, drop_at}
 use Rattle.rules.specs.Records.{bytes_of, encode, put_record}
 use Rattle.rules.proofs.Bytes.{bytes_length, from_bytes_lem}

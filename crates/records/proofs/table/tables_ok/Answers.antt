@@ -1,6 +1,5 @@
 -- `tables_ok` tests N and the length of the job table.
 -- Assumes nothing.
-use borrow.Author.Rules.{rules}
 use Rattle.rules.specs.Records.{job_table_ok}
 use Rattle.rules.specs.Calls.{record_tables_ok}
 use Rattle.records.proofs.table.tables_ok.Goals as goal

@@ -1,7 +1,6 @@
 -- `padded` copies places and leaves zeros after them.
 -- Assumes nothing.
 use mathlib.Core.Path.{refl}
-use borrow.Author.Rules.{rules}
 use Rattle.records.proofs.words.padded.Goals as goal
 
 pub returns : goal.returns

@@ -1,7 +1,6 @@
 -- `Flag::of` gives the flag of a known number.
 -- Assumes nothing.
 use native.Mathlib.Omega.{arith}
-use borrow.Author.Rules.{rules}
 use Rattle.rules.proofs.WellFormed.{flag_small}
 use Rattle.records.proofs.job.Flag.of.Goals as goal
 

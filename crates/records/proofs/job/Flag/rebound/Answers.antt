@@ -1,6 +1,5 @@
 -- `Flag::rebound` gives the masks of a rebind.
 -- Assumes nothing.
-use borrow.Author.Rules.{rules}
 use Rattle.rules.specs.Records.{rebound, effective_at_rebind}
 use Rattle.records.specs.Jobs.{record_with}
 use Rattle.records.proofs.job.Flag.rebound.Goals as goal

@@ -1,7 +1,6 @@
 -- `Job::as_record` gives the record of a job.
 -- Assumes nothing.
 use mathlib.Core.Path.{sym}
-use borrow.Author.Rules.{rules}
 use Rattle.records.specs.Jobs.{job_of}
 use Rattle.records.proofs.job.Job.as_record.Goals as goal
 
@@ -11,15 +10,15 @@ returns-in-Default c = rw c.in-Default.is c.with.ensures
 
 pub returns-in-Preferred : goal.returns-in-Preferred
 unfolding job_of
-returns-in-Preferred c = rw (c.in-Preferred.is, sym c.number.ensures) c.with-in-Preferred.ensures
+returns-in-Preferred c = rw (c.in-Preferred.is, sym c.from.ensures) c.with-in-Preferred.ensures
 
 pub returns-in-Bind : goal.returns-in-Bind
 unfolding job_of
-returns-in-Bind c = rw (c.in-Bind.is, sym c.number-in-Bind.ensures) c.with-in-Bind.ensures
+returns-in-Bind c = rw (c.in-Bind.is, sym c.from-in-Bind.ensures) c.with-in-Bind.ensures
 
 pub returns-in-Interleave : goal.returns-in-Interleave
 unfolding job_of
-returns-in-Interleave c = rw (c.in-Interleave.is, sym c.number-in-Interleave.ensures) c.with-in-Interleave.ensures
+returns-in-Interleave c = rw (c.in-Interleave.is, sym c.from-in-Interleave.ensures) c.with-in-Interleave.ensures
 
 pub returns-in-List : goal.returns-in-List
 unfolding job_of

@@ -1,6 +1,5 @@
 -- `Job::rebound` replaces the allowed mask.
 -- Assumes nothing.
-use borrow.Author.Rules.{rules}
 use Rattle.records.specs.Jobs.{job_of}
 use Rattle.records.proofs.job.Job.rebound.Goals as goal
 

@@ -2,7 +2,6 @@
 -- Assumes nothing.
 use mathlib.Core.Path.{◌≡◌, refl}
 use native.Mathlib.Omega.{arith}
-use borrow.Author.Rules.{rules}
 use Rattle.rules.specs.Records.{row_of}
 use Rattle.rules.proofs.WellFormed.{formed, mode_small}
 use Rattle.records.specs.Jobs.{record_of}

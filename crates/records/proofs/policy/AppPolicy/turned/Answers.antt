@@ -5,15 +5,15 @@ use borrow.Author.Tests.{eq-eqb, ne_eqb}
 use Rattle.records.proofs.Places.{turned_stands}
 use Rattle.records.proofs.policy.AppPolicy.turned.Goals as goal
 
-pub returns-then-self-ne2 : goal.returns-then-self-ne2
-returns-then-self-ne2 c = let plain = ne_eqb c.args.self.flag 2 c.if-self-ne2.true in
+pub returns-else-self-eq2 : goal.returns-else-self-eq2
+returns-else-self-eq2 c = let plain = ne_eqb c.args.self.flag 2 c.if-self-eq2.false in
     record {
       stands = (λ p a. turned_stands a _ _ _ c.requires.0 (rw plain c.turned_mask-user.ensures) c.turned_places-places.ensures);
       same = (refl, refl, refl);
     }
 
-pub returns-else-self-ne2 : goal.returns-else-self-ne2
-returns-else-self-ne2 c = let relative = eq-eqb c.args.self.flag 2 c.if-self-ne2.false in
+pub returns-then-self-eq2 : goal.returns-then-self-eq2
+returns-then-self-eq2 c = let relative = eq-eqb c.args.self.flag 2 c.if-self-eq2.true in
     record {
       stands = (λ p a. turned_stands a _ _ _ c.requires.0 (rw relative) c.turned_places-places.ensures);
       same = (refl, refl, refl);

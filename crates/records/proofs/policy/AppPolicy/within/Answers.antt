@@ -1,9 +1,6 @@
 -- `AppPolicy::within` tests that every number of a policy has an entry in the map.
 -- Assumes nothing.
-use mathlib.Core.Bool.{false≢true}
-use native.Mathlib.Omega.{arith}
-use borrow.Author.Rules.{rules}
-use Rattle.records.proofs.Places.{within_asked, too_many}
+use Rattle.records.proofs.Places.{within_asked}
 use Rattle.records.proofs.policy.AppPolicy.within.Goals as goal
 
 pub returns : goal.returns

@@ -1,6 +1,5 @@
 -- `Policy::mask_fits` tests the mask of an install.
 -- Assumes nothing.
-use borrow.Author.Rules.{rules}
 use Rattle.rules.specs.Calls.{mask_fits}
 use Rattle.records.proofs.policy.Policy.mask_fits.Goals as goal
 

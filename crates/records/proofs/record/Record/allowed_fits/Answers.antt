@@ -1,6 +1,5 @@
 -- `Record::allowed_fits` tests the allowed mask.
 -- Assumes nothing.
-use borrow.Author.Rules.{rules}
 use Rattle.rules.specs.Records.{allowed_fits}
 use Rattle.records.specs.Jobs.{record_of}
 use Rattle.records.proofs.record.Record.allowed_fits.Goals as goal

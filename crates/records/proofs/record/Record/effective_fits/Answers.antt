@@ -1,6 +1,5 @@
 -- `Record::effective_fits` tests the effective mask by the flag.
 -- Assumes nothing.
-use borrow.Author.Rules.{rules}
 use Rattle.rules.specs.Records.{effective_fits}
 use Rattle.records.specs.Jobs.{record_of}
 use Rattle.records.proofs.Numbers.{no_flag_fits}

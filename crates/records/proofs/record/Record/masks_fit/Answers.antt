@@ -1,7 +1,6 @@
 -- `Record::masks_fit` tests user and effective mask.
 -- Assumes nothing.
 use mathlib.Core.Path.{sym, ◌∙◌}
-use borrow.Author.Rules.{rules}
 use Rattle.rules.specs.Records.{masks_fit}
 use Rattle.records.specs.Jobs.{record_of}
 use Rattle.records.proofs.record.Record.masks_fit.Goals as goal

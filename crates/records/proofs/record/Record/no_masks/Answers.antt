@@ -1,6 +1,5 @@
 -- `Record::no_masks` tests that a record has flag 0 and no masks.
 -- Assumes nothing.
-use borrow.Author.Rules.{rules}
 use Rattle.rules.specs.Records.{no_masks}
 use Rattle.records.specs.Jobs.{record_of}
 use Rattle.records.proofs.record.Record.no_masks.Goals as goal

@@ -1,6 +1,5 @@
 -- `Record::unused_zero` tests that unused bits and places are zero.
 -- Assumes nothing.
-use borrow.Author.Rules.{rules}
 use Rattle.rules.specs.Records.{unused_zero}
 use Rattle.records.specs.Jobs.{record_of}
 use Rattle.records.proofs.record.Record.unused_zero.Goals as goal

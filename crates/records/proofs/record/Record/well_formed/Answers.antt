@@ -2,8 +2,6 @@
 -- Assumes nothing.
 use mathlib.Core.Bool.{◌&&◌}
 use mathlib.Core.Path.{◌≡◌, ◌∙◌}
-use borrow.Author.Rules.{rules}
-use borrow.Author.Tests.{not-true, not-false}
 use lib.Dec.{leb}
 use Rattle.rules.specs.Records.{unused_zero}
 use Rattle.rules.proofs.Lists.{both_true}
