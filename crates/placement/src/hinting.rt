@@ -31,14 +31,14 @@ pub fn search_from(hints: &[u32], at: usize, least: Page, most: Page) -> Page
     if at >= hints.len() {
         return least;
     }
-    let hint = hints[at];
-    if hint < least.0 {
+    let hint = Page(hints[at]);
+    if hint < least {
         return least;
     }
-    if most.0 < hint {
+    if most < hint {
         return most;
     }
-    Page(hint)
+    hint
 }
 
 // ---- the hints after a call
@@ -77,7 +77,7 @@ fn lower_hint(hints: &mut [u32; HINTS], at: usize, page: Page)
     requires { at < 5 * most_nodes }
     ensures { hints.new ≡ lowered hints.old at page.0 }
 {
-    if page.0 < hints[at] {
+    if page < Page(hints[at]) {
         hints[at] = page.0;
     }
 }

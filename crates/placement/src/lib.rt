@@ -2,7 +2,7 @@
 
 #![tactic(auto)]
 
-ghost use Rattle.std.specs.Prelude.{true, ◌&&◌, List, ◌≡◌, ℕ, ◌<◌, leb, length, replicate};
+ghost use Rattle.std.specs.Prelude.{true, ◌&&◌, List, ◌≡◌, ℕ, ◌<◌, leb, length};
 ghost use Rattle.rules.specs.Basics.{sum};
 ghost use Rattle.rules.specs.Machine.{node_of_page};
 ghost use Rattle.rules.specs.Masks.{both};
@@ -343,27 +343,12 @@ pub fn release(
 
 // ---- the fresh table
 
-// Makes every byte 0.
-fn clear_bytes(bytes: &mut [u8])
-    ensures { bytes.new ≡ replicate (length bytes.old) 0 }
-{
-    let mut i = 0;
-    while i < bytes.len() {
-        bytes[i] = 0;
-        i += 1;
-    }
-}
-
 // Copies the page counts.
 pub fn copy_counts(counts: &[u32], free: &mut [u32])
     requires { length free.old ≡ length counts.now }
     ensures { free.new ≡ counts.now }
 {
-    let mut i = 0;
-    while i < counts.len() {
-        free[i] = counts[i];
-        i += 1;
-    }
+    free.copy_from_slice(counts);
 }
 
 // The fresh table on tables that are in order.
@@ -377,7 +362,7 @@ pub fn fresh_at(
     ensures { (t : Tables) → outcome (answer_of result) (with_pages t pages.new free.new) ≡ on_fresh counts.now (with_pages t pages.old free.old) }
 {
     let total = machine::pages_end(counts, starts);
-    clear_bytes(&mut pages[..total]);
+    pages[..total].fill(0);
     copy_counts(counts, free);
     Ok(Effect::Done)
 }

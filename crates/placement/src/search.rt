@@ -80,8 +80,7 @@ fn search_round(
     ensures { chosen_by result ≡ chosen free.now (tried (length free.now) limit.0 (round_tries walk.moves places (turn_of walk.cursor) walk.len walk.cursor walk.len)) }
 {
     let mut position = walk.cursor;
-    let mut left = walk.len;
-    while 0 < left {
+    for _step in 0..walk.len {
         let place = place_at(position, walk.len);
         let node = SysNode(places[place.0 as usize]);
         if is_open(free, limit, node) {
@@ -89,7 +88,6 @@ fn search_round(
             return Some(Chosen { node, cursor });
         }
         position = place.0 + 1;
-        left -= 1;
     }
     None
 }
