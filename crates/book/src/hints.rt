@@ -1,6 +1,7 @@
 // The calls that change pages, with the hints kept: for each node and colour a page before which its pages of that colour are held, and for
 // each node one before which all its pages are. A list of calls keeps them from call to call, so that a search for a free page goes over no
 // held page twice.
+// `request` and `release` end with the same two calls; a function for these would have more clauses than calls.
 
 ghost use Rattle.std.specs.Prelude.{true, ◌≡◌, length};
 ghost use Rattle.rules.specs.Answers.{answer_of};

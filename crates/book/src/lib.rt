@@ -97,11 +97,11 @@ pub fn perform(
             len,
         } => {
             let policy = AppPolicy {
-                mode: mode,
-                flag: flag,
+                mode,
+                flag,
                 user: mask,
-                len: len,
-                places: places,
+                len,
+                places,
             };
             records::install_at(nodes, jobs, maps, job, policy)
         }

@@ -1,4 +1,5 @@
 // The calls that set a map, by value: `list` holds the list of the call, if it is not too long for a map.
+// `keep` and `set` stay two: they call two functions of two laws, and one of them for both would need an enum and a law over it.
 
 ghost use Rattle.std.specs.Prelude.{true, List, ◌≡◌, ℕ, ◌<◌, length};
 ghost use Rattle.rules.specs.Answers.{answer_of};

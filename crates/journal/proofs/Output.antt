@@ -21,10 +21,6 @@ use Rattle.journal.proofs.Parts.{part_waits, one_size}
 
 -- ---- parts that are lent
 
--- a copy that fills what it is put into is all that stands there
-pub filled : {xs out : List ℕ} (ys : List ℕ) → length ys ≤ length xs → out ≡ take (length xs) xs ++ drop (length xs) ys → out ≡ xs
-filled {xs} ys h e = e ∙ rw (take-length xs, drop_of_length-le ys h, append-nil)
-
 -- the rest of the bytes, lent from a place on, is the rest
 pub rest_lent : (bs : List ℕ) (at : ℕ) → take (length bs - at) (drop at bs) ≡ drop at bs
 rest_lent bs at = take_all (length bs - at) (drop at bs) (rw length-drop (omega arith))

@@ -1,7 +1,7 @@
 -- Bytes that were given to a writer in two parts.
-use Rattle.std.proofs.Common.{◌≡◌, ℕ, ◌+◌, List, ◌++◌, take, drop, Option, None, Some, sym, ap, ◌∙◌, append_assoc}
+use Rattle.std.proofs.Common.{ℕ, ◌+◌, List, ◌++◌, take, drop, Option, None, Some, sym, ap, ◌∙◌, append_assoc}
 use Rattle.std.proofs.Math.Seq.{take-add}
-use Rattle.std.specs.Io.KnownBytes.{Keeps as Stays, Appends}
+use Rattle.std.specs.Io.KnownBytes.{Appends}
 
 -- the first bytes, and then the next ones
 pub gave_more : (old mid new : Option (List ℕ)) (bs : List ℕ) (done more : ℕ) → Appends old mid (take done bs)

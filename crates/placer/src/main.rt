@@ -10,9 +10,7 @@ ghost use Rattle.rules.specs.Journal.{machine_size, opening};
 use failure::Failure;
 use journal::opening::LONGEST;
 use journal::{answer, opening, reading};
-use part::Rest;
 use std::io::{Read, Write};
-use stdio::Got;
 
 mod failure;
 mod part;
@@ -36,10 +34,10 @@ fn read_opening<R: Read>(reader: &mut R, bytes: &mut [u8]) -> Result<usize, Fail
         if done >= size {
             break;
         }
-        match stdio::read_some(reader, &mut bytes[done..size])? {
-            Got::Bytes(came) => done += came,
-            Got::End => break,
-        }
+        let Some(came) = stdio::read_some(reader, &mut bytes[done..size])? else {
+            break;
+        };
+        done += came;
         if done == 6 {
             size = opening::opening_size(bytes);
         }
@@ -77,8 +75,8 @@ fn answer_records<R: Read, W: Write>(
             kept,
         )?;
         match rest {
-            Rest::Kept(n) => kept = n,
-            Rest::Ended => break,
+            Some(n) => kept = n,
+            None => break,
         }
     }
     Ok(())

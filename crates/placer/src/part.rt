@@ -9,18 +9,10 @@ ghost use Rattle.placer.specs.Parts.{Answered, Turn};
 
 use super::failure::Failure;
 use super::stdio;
-use super::stdio::Got;
 use journal::answer::ANSWER_SIZE;
 use journal::record::SHORTEST;
 use journal::run;
 use std::io::{Read, Write};
-
-// What a part leaves: so many bytes of a record that has not arrived in full, or the end of the run.
-#[derive(Clone, Copy)]
-pub enum Rest {
-    Kept(usize),
-    Ended,
-}
 
 // The most bytes that are there at once: those that were kept and those that a read brings.
 const MOST: usize = 65536;
@@ -48,7 +40,7 @@ fn keep(bytes: &mut [u8], from: usize, n: usize)
 }
 
 // Answers the records among the bytes that are there, and moves the others to the front. Where the input has ended, what is left is a
-// "short record .. answers .. refusal 13".
+// "short record .. answers .. refusal 13". How many bytes of a record that has not arrived in full are left, or `None` where the run ends.
 fn answer_there<W: Write>(
     writer: &mut W,
     opening: &[u8],
@@ -60,7 +52,7 @@ fn answer_there<W: Write>(
     output: &mut [u8],
     there: usize,
     ended: bool,
-) -> Result<Rest, Failure>
+) -> Result<Option<usize>, Failure>
     requires { Opened opening.now (tables_of pages.old jobs.old free.old maps.old) × (there ≤ length input.old) × (65536 ≡ length input.old) × (24588 ≡ length output.old) }
     ensures { Answered (on_part (machine_in opening.now) (tables_of pages.old jobs.old free.old maps.old) (take there input.old) ended output.old) (take there input.old) ended (tables_of pages.new jobs.new free.new maps.new) input.new output.new result }
 {
@@ -79,12 +71,12 @@ fn answer_there<W: Write>(
     keep(input, used, there - used);
     sent?;
     if part.more & !ended {
-        return Ok(Rest::Kept(there - used));
+        return Ok(Some(there - used));
     }
-    Ok(Rest::Ended)
+    Ok(None)
 }
 
-// Reads once, after the bytes that were kept, and answers what is there.
+// Reads once, after the bytes that were kept, and answers what is there: what is kept now, or `None` where the run ends.
 pub fn answer_part<R: Read, W: Write>(
     reader: &mut R,
     writer: &mut W,
@@ -96,18 +88,18 @@ pub fn answer_part<R: Read, W: Write>(
     input: &mut [u8],
     output: &mut [u8],
     kept: usize,
-) -> Result<Rest, Failure>
+) -> Result<Option<usize>, Failure>
     requires { Opened opening.now (tables_of pages.old jobs.old free.old maps.old) × (kept ≤ length input.old) × (65536 ≡ length input.old) × (24588 ≡ length output.old) }
     ensures { Turn (machine_in opening.now) (tables_of pages.old jobs.old free.old maps.old) (take kept input.old) output.old (tables_of pages.new jobs.new free.new maps.new) input.new output.new result }
 {
     match stdio::read_some(reader, &mut input[kept..])? {
-        Got::Bytes(came) => {
+        Some(came) => {
             let there = kept + came;
             answer_there(
                 writer, opening, pages, jobs, free, maps, input, output, there, false,
             )
         }
-        Got::End => answer_there(
+        None => answer_there(
             writer, opening, pages, jobs, free, maps, input, output, kept, true,
         ),
     }

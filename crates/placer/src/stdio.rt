@@ -8,22 +8,16 @@ ghost use Rattle.placer.specs.Streams.{Brought, Put, Sent};
 use super::failure::Failure;
 use std::io::{Error, ErrorKind, Read, Write};
 
-// What a read brought: so many bytes, none where a signal came first; or the end of input.
-#[derive(Clone, Copy)]
-pub enum Got {
-    Bytes(usize),
-    End,
-}
-
-// One read, which waits for no more than the first bytes.
-pub fn read_some<R: Read>(reader: &mut R, bytes: &mut [u8]) -> Result<Got, Failure>
+// One read, which waits for no more than the first bytes: how many it brought, none where a signal came first, or `None` at the end of
+// input.
+pub fn read_some<R: Read>(reader: &mut R, bytes: &mut [u8]) -> Result<Option<usize>, Failure>
     ensures came { IfOk result (AtMost (length bytes.old)) }
     ensures brought { Brought (R.remaining reader.old) (R.remaining reader.new) bytes.new result }
 {
     match reader.read(bytes) {
-        Ok(0) => Ok(Got::End),
-        Ok(came) => Ok(Got::Bytes(came)),
-        Err(error) if error.kind() == ErrorKind::Interrupted => Ok(Got::Bytes(0)),
+        Ok(0) => Ok(None),
+        Ok(came) => Ok(Some(came)),
+        Err(error) if error.kind() == ErrorKind::Interrupted => Ok(Some(0)),
         Err(error) => Err(Failure::Input(error)),
     }
 }

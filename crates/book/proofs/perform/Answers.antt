@@ -1,49 +1,32 @@
 -- `perform` is the book's step, call by call.
 -- Assumes nothing.
 use mathlib.Core.Path.{refl}
-use borrow.Author.Rules.{rules}
-use Rattle.rules.specs.Machine.{Machine}
 use Rattle.rules.specs.Calls.{Tables, tables_of}
 use Rattle.rules.proofs.InOrder.{release_ok, fresh_ok, mapped_ok, record_ok}
-use Rattle.machine.specs.Tables.{machine_of}
 use Rattle.drain.proofs.Lent.{drain_ok}
 use Rattle.book.proofs.Steps.{did_request, did_release, did_rebind, did_install, did_clear, did_fresh, did_keep, did_set, did_drain_lem}
 use Rattle.book.proofs.perform.Goals as goal
 
 pub release-requires : goal.release-requires
-release-requires c = let machine : Machine = machine_of c.args.counts.now c.args.cpus.now c.args.distances.now in
-    let tables : Tables = tables_of c.args.pages.now c.args.jobs.now c.args.free.now c.args.maps.now in
-    (release_ok machine tables c.requires.0, c.requires.1, c.requires.2)
+release-requires c = (release_ok _ _ c.requires.0, c.requires.1, c.requires.2)
 
 pub rebind_at-requires : goal.rebind_at-requires
-rebind_at-requires c = let machine : Machine = machine_of c.args.counts.now c.args.cpus.now c.args.distances.now in
-    let tables : Tables = tables_of c.args.pages.now c.args.jobs.now c.args.free.now c.args.maps.now in
-    record_ok _ _ _ (mapped_ok machine tables c.requires.0)
+rebind_at-requires c = record_ok _ _ _ (mapped_ok _ _ c.requires.0)
 
 pub install_at-requires : goal.install_at-requires
-install_at-requires c = let machine : Machine = machine_of c.args.counts.now c.args.cpus.now c.args.distances.now in
-    let tables : Tables = tables_of c.args.pages.now c.args.jobs.now c.args.free.now c.args.maps.now in
-    mapped_ok machine tables c.requires.0
+install_at-requires c = mapped_ok _ _ c.requires.0
 
 pub clear_at-requires : goal.clear_at-requires
-clear_at-requires c = let machine : Machine = machine_of c.args.counts.now c.args.cpus.now c.args.distances.now in
-    let tables : Tables = tables_of c.args.pages.now c.args.jobs.now c.args.free.now c.args.maps.now in
-    record_ok _ _ _ (mapped_ok machine tables c.requires.0)
+clear_at-requires c = record_ok _ _ _ (mapped_ok _ _ c.requires.0)
 
 pub fresh-requires : goal.fresh-requires
-fresh-requires c = let machine : Machine = machine_of c.args.counts.now c.args.cpus.now c.args.distances.now in
-    let tables : Tables = tables_of c.args.pages.now c.args.jobs.now c.args.free.now c.args.maps.now in
-    (fresh_ok _ tables (release_ok machine tables c.requires.0), c.requires.1)
+fresh-requires c = (fresh_ok _ _ (release_ok _ _ c.requires.0), c.requires.1)
 
 pub keep-requires : goal.keep-requires
-keep-requires c = let machine : Machine = machine_of c.args.counts.now c.args.cpus.now c.args.distances.now in
-    let tables : Tables = tables_of c.args.pages.now c.args.jobs.now c.args.free.now c.args.maps.now in
-    mapped_ok machine tables c.requires.0
+keep-requires c = mapped_ok _ _ c.requires.0
 
 pub set-requires : goal.set-requires
-set-requires c = let machine : Machine = machine_of c.args.counts.now c.args.cpus.now c.args.distances.now in
-    let tables : Tables = tables_of c.args.pages.now c.args.jobs.now c.args.free.now c.args.maps.now in
-    mapped_ok machine tables c.requires.0
+set-requires c = mapped_ok _ _ c.requires.0
 
 pub returns-in-Request : goal.returns-in-Request
 returns-in-Request c = record {
@@ -102,9 +85,7 @@ returns-in-SetMap c = let tables : Tables = tables_of c.args.pages.now c.args.jo
     }
 
 pub drain_node-requires : goal.drain_node-requires
-drain_node-requires c = let machine : Machine = machine_of c.args.counts.now c.args.cpus.now c.args.distances.now in
-    let tables : Tables = tables_of c.args.pages.now c.args.jobs.now c.args.free.now c.args.maps.now in
-    (drain_ok machine tables c.requires.0, c.requires.1, c.requires.2)
+drain_node-requires c = (drain_ok _ _ c.requires.0, c.requires.1, c.requires.2)
 
 pub returns-in-Drain : goal.returns-in-Drain
 returns-in-Drain c = record {

@@ -1,5 +1,5 @@
 -- The record is accepted with its size.
-use Rattle.std.proofs.Common.{◌≡◌, sym, ap, ◌∙◌}
+use Rattle.std.proofs.Common.{sym, ap, ◌∙◌}
 use Rattle.rules.specs.Answers.{decision_of}
 use Rattle.journal.proofs.MachineRecord.{good_opening}
 use Rattle.placer.proofs.answer_journal.Goals as goal

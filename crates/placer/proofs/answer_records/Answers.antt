@@ -1,9 +1,9 @@
 -- The machine record is good; the counts that are made and lent are the machine's page counts.
-use Rattle.std.proofs.Common.{◌≡◌, ℕ, ◌≤◌, List, length, take, sym, ◌∙◌, arith, rules}
+use Rattle.std.proofs.Common.{◌≡◌, ℕ, List, length, take, sym, ◌∙◌, arith, rules}
 use Rattle.std.proofs.Math.Seq.{length-take-le}
 use Rattle.rules.specs.Calls.{tables_of}
 use Rattle.rules.specs.Decisions.{accept}
-use Rattle.rules.specs.Journal.{byte_at, machine_size, machine_in, opening}
+use Rattle.rules.specs.Journal.{byte_at, machine_in, opening}
 use Rattle.journal.proofs.MachineRecord.{head_in, good_opening, Cut, cut}
 use Rattle.journal.proofs.Within.{opened, still_opened}
 use Rattle.placer.proofs.answer_records.Goals as goal

@@ -1,6 +1,5 @@
 -- `hints::fresh` meets its contract: zeros are hints for any page table.
 -- Assumes nothing.
-use borrow.Author.Rules.{rules}
 use Rattle.placement.proofs.Hints.{zero_hints}
 use Rattle.book.proofs.hints.fresh.Goals as goal
 

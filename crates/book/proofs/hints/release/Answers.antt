@@ -1,6 +1,5 @@
 -- `hints::release` meets its contract: the release, its page told to the hints, and the answer in the job's numbers.
 -- Assumes nothing.
-use borrow.Author.Rules.{rules}
 use Rattle.rules.specs.Calls.{Tables, tables_of, map_of}
 use Rattle.rules.proofs.InOrder.{fresh_ok, pages_in_order_lem}
 use Rattle.placement.specs.Hints.{Hints, hinted, Named}

@@ -1,6 +1,5 @@
 -- `hints::request` meets its contract: the request, its page told to the hints, and the answer in the job's numbers.
 -- Assumes nothing.
-use borrow.Author.Rules.{rules}
 use Rattle.rules.specs.Machine.{Machine}
 use Rattle.rules.specs.Calls.{Tables, tables_of, map_of}
 use Rattle.rules.proofs.InOrder.{release_ok, fresh_ok, pages_in_order_lem}

@@ -1,8 +1,6 @@
 -- `lists::too_long` meets its contract: a list of more numbers than a map has entries is no good list.
 -- Assumes nothing.
 use mathlib.Core.Path.{sym, ◌∙◌}
-use borrow.Author.Rules.{rules}
-use borrow.Author.Tests.{not-true, not-false}
 use Rattle.rules.specs.Calls.{applied, keep_decision, set_map_decision, on_keep, on_set_map}
 use Rattle.rules.proofs.Mapped.{long_kept, long_list}
 use Rattle.book.proofs.lists.too_long.Goals as goal

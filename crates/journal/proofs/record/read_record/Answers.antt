@@ -37,14 +37,18 @@ returns c =
     let size = c.size_of-size.ensures in
     elim c.match-kind.branch [
       | in-1 w ↦ let cpu = w.byte_at-cpu.ensures.0 in
-          known_read bytes _ passed (ap kind_of w.in-1.is) size w.call-is (w.rest_zero.ensures ∙ request_zero bytes long) refl (λ z. cc) c.then_some.ensures
+          known_read bytes _ passed (ap kind_of w.in-1.is) size w.call-is
+          (w.rest_zero.ensures ∙ request_zero bytes long) refl (λ z. cc) c.then_some.ensures
       | in-2 w ↦ let page = w.u32_at-page.ensures in
-          known_read bytes _ passed (ap kind_of w.in-2.is) size w.call-is (w.rest_zero-in-2.ensures ∙ release_zero bytes long) refl (λ z. cc) c.then_some.ensures
+          known_read bytes _ passed (ap kind_of w.in-2.is) size w.call-is
+          (w.rest_zero-in-2.ensures ∙ release_zero bytes long) refl (λ z. cc) c.then_some.ensures
       | in-3 w ↦ let allowed = w.u64_at-allowed.ensures in
-          known_read bytes _ passed (ap kind_of w.in-3.is) size w.call-is (ap₂ ◌&&◌ w.zero_from.ensures w.places_zero.ensures ∙ rebind_zero bytes long) refl (λ z. cc) c.then_some.ensures
+          known_read bytes _ passed (ap kind_of w.in-3.is) size w.call-is
+          (ap₂ ◌&&◌ w.zero_from.ensures w.places_zero.ensures ∙ rebind_zero bytes long) refl (λ z. cc) c.then_some.ensures
       | in-4 w ↦ let len = w.byte_at.ensures in
           known_read bytes _ passed (ap kind_of w.in-4.is) size w.call-is
           (ap (λ (t : Bool). eqb (byte_at bytes 4) 0 && t) (rw len.0 at w.places_zero-in-4.ensures) ∙ install_zero bytes long) refl
           (λ z. rw w.install_in.ensures (_, refl, places_listed bytes long z (omega (arith, len.0, len.1)))) c.then_some.ensures
-      | in-5 w ↦ known_read bytes _ passed (ap kind_of w.in-5.is) size w.call-is (w.rest_zero-in-5.ensures ∙ clear_zero bytes long) refl (λ z. cc) c.then_some.ensures
+      | in-5 w ↦ known_read bytes _ passed (ap kind_of w.in-5.is) size w.call-is
+          (w.rest_zero-in-5.ensures ∙ clear_zero bytes long) refl (λ z. cc) c.then_some.ensures
     ]

@@ -1,5 +1,5 @@
 -- What the part read lies within the bytes that are there, what it wrote within the output, and no whole record is left.
-use Rattle.std.proofs.Common.{◌+◌, ◌-◌, ◌≤◌, length, take, sym, arith}
+use Rattle.std.proofs.Common.{sym, arith}
 use Rattle.std.proofs.Math.Seq.{length-take-le}
 use Rattle.journal.proofs.Within.{written_within}
 use Rattle.placer.proofs.Came.{read_there, goes_on}

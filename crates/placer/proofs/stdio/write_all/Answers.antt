@@ -1,5 +1,5 @@
 -- The bytes that a write took follow those before.
-use Rattle.std.proofs.Common.{◌+◌, ◌≤◌, length, arith, length-drop}
+use Rattle.std.proofs.Common.{arith, length-drop}
 use Rattle.std.proofs.lemmas.List.{take_rest}
 use Rattle.placer.proofs.Streams.{gave_more}
 use Rattle.placer.proofs.stdio.write_all.Goals as goal
