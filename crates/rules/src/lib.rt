@@ -2,7 +2,7 @@
 
 #![tactic(auto)]
 
-ghost use Rattle.std.specs.Prelude.{◌≡◌, ◌++◌, ℕ, min, ◌≤◌, length, take, drop, replicate};
+ghost use Rattle.std.specs.Prelude.{◌≡◌, ◌++◌, ℕ, ◌≤◌, length, take, drop, replicate};
 ghost use Rattle.rules.specs.Calls.{numbers};
 ghost use Rattle.rules.specs.Records.{closes};
 ghost use Rattle.rules.specs.Answers.{number_of, answer_of, decision_of, numbers_in, in_numbers, number_in, ordered_of, order_numbers, order_numbers_in};
@@ -40,13 +40,6 @@ pub const NO_NODE: u8 = 0xFF;
 pub const CLOSING_PLACE: u8 = 0xFF;
 
 const NO_PAGE: u32 = 0xFFFF_FFFF;
-
-// The lower of two bytes: with no early exit, a pass that keeps the lowest compiles to vectors.
-pub fn lower(a: u8, b: u8) -> u8
-    ensures { result ≡ min a b }
-{
-    a.min(b)
-}
 
 // M-104: "a 255 in the last place": do the places end in it?
 pub fn closes(places: &[u8]) -> bool
