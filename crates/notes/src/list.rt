@@ -22,6 +22,7 @@ pub fn end_of(bytes: &[u8]) -> usize
 }
 
 // The first string, without its zero, and the bytes behind that zero; none if no zero is left.
+// The loops over strings are a `while let` over it, since strings are no elements of a slice that a `for` could go over.
 pub fn split_string(bytes: &[u8]) -> Option<(&[u8], &[u8])>
     ensures { MatchOption result (strings bytes.now ≡ []) (λ both. Split bytes.now both.0.now both.1.now) }
 {
