@@ -24,7 +24,8 @@ use Rattle.placement.proofs.Requests.{let_through, searchable}
 use Rattle.reasons.specs.Explains.{IsNode, Explainable, explained}
 
 -- a node that a search has chosen is one of the machine's
-pub is_node_lem : (counts free : List ℕ) (ts : List Try) (c : Option Chosen) → length free ≡ length counts → chosen_by c ≡ chosen free ts → IsNode (length counts) c
+pub is_node_lem : (counts free : List ℕ) (ts : List Try) (c : Option Chosen) → length free ≡ length counts → chosen_by c ≡ chosen free ts
+    → IsNode (length counts) c
 is_node_lem counts free ts (Some c) e h = (chose counts free ts _ e h).node
 is_node_lem counts free ts None e h = tt
 

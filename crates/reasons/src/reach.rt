@@ -30,13 +30,10 @@ pub fn named(places: [u8; PLACES_PER_JOB], len: u8) -> Mask
     ensures { result.0 ≡ set_of (take len places) }
 {
     let mut set = Mask::EMPTY;
-    let mut i: usize = 0;
-    while i < len as usize {
-        let node = places[i];
-        if (node as usize) < MOST_NODES {
-            set = set.insert(SysNode(node));
+    for node in &places[..len as usize] {
+        if (*node as usize) < MOST_NODES {
+            set = set.insert(SysNode(*node));
         }
-        i += 1;
     }
     set
 }
@@ -48,12 +45,10 @@ fn reachable(n: usize, distances: &[u8], x: SysNode) -> Mask
 {
     let start = x.0 as usize * n;
     let mut set = Mask::EMPTY;
-    let mut i: usize = 0;
-    while i < n {
+    for i in 0..n {
         if distances[start + i] != UNREACHABLE {
             set = set.insert(SysNode(i as u8));
         }
-        i += 1;
     }
     set
 }

@@ -24,12 +24,12 @@ pub enum Reason {
     Later,
 }
 
-impl Reason {
-    // The code of a reason.
-    pub fn code(self) -> u8
-        ensures { result ≡ code_of self }
+// The code of a reason.
+impl From<Reason> for u8 {
+    fn from(reason: Reason) -> u8
+        ensures { result ≡ code_of reason }
     {
-        match self {
+        match reason {
             Reason::NotAllowed => 1,
             Reason::OutsideBind => 2,
             Reason::Unreachable => 3,
@@ -78,11 +78,9 @@ pub fn put_reasons(free: &[u32], limit: Mask, reach: Reach, chosen: Option<Chose
     requires { (length free.now ≤ most_nodes) × (length free.now ≤ length out.old) }
     ensures { out.new ≡ map (reason_at free.now limit.0 reach (chosen_by chosen)) (from 0 (length free.now)) ++ drop (length free.now) out.old }
 {
-    let mut i = 0;
-    while i < free.len() {
+    for (i, count) in free.iter().enumerate() {
         let node = SysNode(i as u8);
-        let reason = reason_of(limit, reach, free[i], is_chosen(chosen, node), node);
-        out[i] = reason.code();
-        i += 1;
+        let reason = reason_of(limit, reach, *count, is_chosen(chosen, node), node);
+        out[i] = u8::from(reason);
     }
 }

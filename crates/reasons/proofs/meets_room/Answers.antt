@@ -1,7 +1,6 @@
 -- `meets_room` meets its contract.
 -- Assumes nothing.
 use mathlib.Core.Path.{refl}
-use borrow.Author.Rules.{rules}
 use Rattle.rules.specs.Reasons.{meets_room}
 use Rattle.reasons.proofs.meets_room.Goals as goal
 

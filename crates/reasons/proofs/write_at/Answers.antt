@@ -1,7 +1,6 @@
 -- `write_at` meets its contract: the request's tests, 11, then the reasons.
 -- Assumes nothing.
 use mathlib.Core.Path.{◌≡◌}
-use borrow.Author.Rules.{rules}
 use borrow.Author.Tests.{ltb-true}
 use Rattle.rules.specs.Machine.{Machine}
 use Rattle.rules.specs.Decisions.{accept}

@@ -2,8 +2,6 @@
 -- Assumes nothing.
 use mathlib.Core.Path.{◌≡◌, sym, ◌∙◌}
 use mathlib.Core.Bool.{true}
-use borrow.Author.Rules.{rules}
-use borrow.Author.Tests.{not-true, not-false}
 use Rattle.rules.specs.Machine.{Machine, machine_ok}
 use Rattle.rules.specs.Calls.{Tables, tables_of, request_tables_ok}
 use Rattle.rules.proofs.Machine.{in_order}

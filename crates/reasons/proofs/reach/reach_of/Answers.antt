@@ -4,7 +4,6 @@ use Prim.Native.Nat.{ℕ, ◌<◌}
 use mathlib.Core.Path.{◌≡◌, refl, ap, ◌∙◌}
 use mathlib.Core.Bool.{Bool, not, ◌||◌}
 use mathlib.Core.List.{List}
-use borrow.Author.Rules.{rules}
 use Rattle.rules.specs.Masks.{has, mask_of}
 use Rattle.rules.specs.Reasons.{is_far}
 use Rattle.rules.proofs.Masks.{has_mask_of, either_has}

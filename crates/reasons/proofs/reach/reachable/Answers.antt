@@ -1,17 +1,14 @@
 -- `reachable` meets its contract. The loop: the set is that of the nodes before this one.
 -- Assumes nothing.
-use Prim.Native.Nat.{ℕ, ◌+◌, ◌-◌, ◌*◌, ◌≤◌, ◌<◌}
+use Prim.Native.Nat.{ℕ, ◌+◌, ◌*◌, ◌≤◌, ◌<◌}
 use mathlib.Core.Path.{◌≡◌, refl, sym, ap, ◌∙◌}
-use mathlib.Core.Logic.{⊎_elim}
-use mathlib.Core.Bool.{Bool, not}
+use mathlib.Core.Bool.{not}
 use mathlib.Core.List.{List}
 use native.Mathlib.Nat.{mul-le-mul}
 use native.Mathlib.Numerals.{add-one}
 use native.Mathlib.Omega.{arith}
-use borrow.Author.Rules.{rules}
 use borrow.Author.Tests.{eq-eqb, ne_eqb}
-use lib.Dec.{eqb}
-use lib.ListN.{length, get_or}
+use lib.ListN.{length}
 use Rattle.rules.specs.Machine.{distance}
 use Rattle.rules.specs.Masks.{insert, mask_of}
 use Rattle.rules.specs.Reasons.{is_far}
@@ -30,7 +27,7 @@ isNear-is n distances x k = refl
 
 pub loop-i-init : goal.loop-i-init
 unfolding mask_of
-loop-i-init c = (search rules, refl)
+loop-i-init c = refl
 
 pub loop-i-preserved : goal.loop-i-preserved
 loop-i-preserved c = let row_in : (i : ℕ) → i < c.args.n → (c.args.x.0 * c.args.n + i < length c.args.distances.now) ×
@@ -39,19 +36,17 @@ loop-i-preserved c = let row_in : (i : ℕ) → i < c.args.n → (c.args.x.0 * c
     let entry : (c.args.x.0 * c.args.n + c.loop-i.i < length c.args.distances.now) × (length c.args.distances.now ≤ 64 * 64) = row_in c.loop-i.i
     c.loop-i-test.true in
     let start = c.args.x.0 * c.args.n in
-    let read = entry_same c.args.distances.now (start + c.loop-i.i) 255 0 entry.0 in (
-      omega (arith, c.loop-i-test.true),
-      rw (add-one c.loop-i.i)
-          (elim c.if-distances-start.branch [
-            | then-distances-start w ↦ ap (λ (m : Mask). m.0) w.set-is ∙ w.insert-set.ensures ∙ ap
-                (λ (m : ℕ). insert m c.loop-i.i) c.loop-i.invariant.1
-                ∙ mask_of_with (isNear c.args.distances.now start) c.loop-i.i (ap not (ne_eqb _ 255 (λ e. w.if-distances-start.true (sym read ∙ e))))
-            | else-distances-start w ↦ ap (λ (m : Mask). m.0) w.set-is ∙ c.loop-i.invariant.1
-                ∙ mask_of_without (isNear c.args.distances.now start) c.loop-i.i (ap not (eq-eqb _ 255 (read ∙ w.if-distances-start.false)))
-          ]),
-    )
+    let read = entry_same c.args.distances.now (start + c.loop-i.i) 255 0 entry.0 in
+    rw (add-one c.loop-i.i)
+    (elim c.if-distances-start.branch [
+      | then-distances-start w ↦ ap (λ (m : Mask). m.0) w.set-is ∙ w.insert-set.ensures ∙ ap
+          (λ (m : ℕ). insert m c.loop-i.i) c.loop-i.invariant
+          ∙ mask_of_with (isNear c.args.distances.now start) c.loop-i.i (ap not (ne_eqb _ 255 (λ e. w.if-distances-start.true (sym read ∙ e))))
+      | else-distances-start w ↦ ap (λ (m : Mask). m.0) w.set-is ∙ c.loop-i.invariant
+          ∙ mask_of_without (isNear c.args.distances.now start) c.loop-i.i (ap not (eq-eqb _ 255 (read ∙ w.if-distances-start.false)))
+    ])
 
 pub returns : goal.returns
-returns c = let all : c.loop-i.i ≡ c.args.n = omega (arith, c.loop-i.invariant.0, c.loop-i-test.false) in
-    c.loop-i.invariant.1 ∙ ap (λ (k : ℕ). mask_of k (isNear c.args.distances.now (c.args.x.0 * c.args.n))) all
+returns c = let all : c.loop-i.i ≡ c.args.n = omega (arith, c.loop-i-test.false) in
+    c.loop-i.invariant ∙ ap (λ (k : ℕ). mask_of k (isNear c.args.distances.now (c.args.x.0 * c.args.n))) all
     ∙ mask_of_same c.args.n _ _ (λ k h. isNear-is c.args.n c.args.distances.now c.args.x.0 k)

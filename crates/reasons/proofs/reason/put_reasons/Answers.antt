@@ -1,13 +1,11 @@
 -- `put_reasons` meets its contract. The loop: the reasons of the nodes before this one stand at the start of the output.
 -- Assumes nothing.
-use Prim.Native.Nat.{ℕ, ◌+◌, ◌-◌, ◌≤◌, ◌<◌}
+use Prim.Native.Nat.{◌<◌}
 use mathlib.Core.Path.{◌≡◌, refl, ap, ◌∙◌}
 use mathlib.Core.Bool.{Bool}
-use mathlib.Core.List.{◌++◌, map}
 use native.Mathlib.Omega.{arith}
-use borrow.Author.Rules.{rules}
 use lib.Dec.{ltb}
-use lib.ListN.{length, get_or, drop, length-set}
+use lib.ListN.{length, get_or, length-set}
 use Rattle.rules.specs.Basics.{from}
 use Rattle.rules.specs.SearchOrder.{counted}
 use Rattle.placement.specs.Searches.{chosen_by}
@@ -17,12 +15,12 @@ use Rattle.reasons.proofs.reason.put_reasons.Goals as goal
 
 pub loop-i-init : goal.loop-i-init
 unfolding from
-loop-i-init c = (search rules, refl, refl)
+loop-i-init c = (refl, refl)
 
 pub loop-i-preserved : goal.loop-i-preserved
 unfolding counted
-loop-i-preserved c = let reason : c.code.result ≡ reason_at c.args.free.now c.args.limit.0 c.args.reach (chosen_by c.args.chosen) c.loop-i.i =
-    c.code.ensures ∙ c.reason_of-reason.ensures ∙ ap (λ (t : Bool). reason_by c.args.limit.0 c.args.reach
+loop-i-preserved c = let reason : c.from.result ≡ reason_at c.args.free.now c.args.limit.0 c.args.reach (chosen_by c.args.chosen) c.loop-i.i =
+    c.from.ensures ∙ c.reason_of-reason.ensures ∙ ap (λ (t : Bool). reason_by c.args.limit.0 c.args.reach
     (ltb 0 (get_or c.args.free.now c.loop-i.i 0)) t c.loop-i.i) c.is_chosen.ensures in
     let room : c.loop-i.i < length c.args.out.now = omega (arith, c.requires.1, c.loop-i-test.true) in
-    (omega arith, length-set c.loop-i.out c.loop-i.i _ ∙ c.loop-i.invariant.1, rw c.loop-i.invariant.2 (put_next _ c.args.out.now c.loop-i.i room reason))
+    (length-set c.loop-i.out c.loop-i.i _ ∙ c.loop-i.invariant.0, rw c.loop-i.invariant.1 (put_next _ c.args.out.now c.loop-i.i room reason))
