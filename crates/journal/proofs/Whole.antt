@@ -1,6 +1,6 @@
 -- A whole journal: what the run starts with, and what it comes to.
 -- Assumes nothing.
-use Prim.Native.Nat.{ℕ, ◌*◌, ◌/◌, ◌≤◌, ◌<◌}
+use Prim.Native.Nat.{ℕ, ◌-◌, ◌*◌, ◌/◌, ◌≤◌, ◌<◌}
 use mathlib.Core.Path.{◌≡◌, refl, sym, ap, ◌∙◌}
 use mathlib.Core.Bool.{true}
 use mathlib.Core.List.{List, ◌++◌}
@@ -22,8 +22,9 @@ use Rattle.journal.specs.Parts.{answer_size, run_of, Passed, put_into, on_part}
 use Rattle.journal.proofs.IdentityMaps.{identity_long}
 use Rattle.journal.proofs.MachineRecord.{good_opening}
 use Rattle.journal.proofs.Answers.{fault_length}
+use Rattle.journal.proofs.Output.{rest_lent}
 use Rattle.journal.proofs.Parts.{last_part}
-use Rattle.journal.proofs.BookRun.{journal_refused}
+use Rattle.journal.proofs.BookRun.{journal_refused, journal_opened}
 
 -- ---- the start
 
@@ -63,6 +64,13 @@ all_done m t rest out room {a} said =
     let all = last_part m (length out / answer_size) t rest (omega arith) in
     let n : a.written ≡ length (run_of m t rest) = ap (λ (x : Passed). x.written) said ∙ ap length all in
     (n, ap (λ (x : Passed). x.output) said ∙ rw (n, all))
+
+-- what is counted of the bytes after a good machine record is what all answers take
+pub counted_whole : (input : List ℕ) {size n : ℕ} → opening input ≡ accept size
+    → ((m : Machine) (t : Tables) → n ≡ length (run_of m t (take (length input - size) (drop size input)))) → n ≡ length (journal input)
+counted_whole input {size} v counted =
+    let all = rw (rest_lent input size) at counted in
+    all (machine_in input) (start_of (machine_in input)) ∙ ap length (sym (journal_opened input v))
 
 -- ---- the whole
 

@@ -7,54 +7,49 @@ use borrow.Author.Rules.{rules}
 use lib.ListN.{length}
 use Rattle.rules.specs.Answers.{number_of, decision_of}
 use Rattle.rules.specs.Decisions.{refuse, accept}
-use Rattle.rules.specs.Journal.{machine_in, start_of, opening, journal}
+use Rattle.rules.specs.Journal.{opening}
 use Rattle.journal.proofs.MachineRecord.{good_opening}
-use Rattle.journal.proofs.Output.{rest_lent}
-use Rattle.journal.proofs.BookRun.{journal_opened}
-use Rattle.journal.proofs.Whole.{too_short, answered, no_answer, one_answer}
+use Rattle.journal.proofs.Whole.{counted_whole, too_short, answered, no_answer, one_answer}
 use Rattle.journal.proofs.journal.Goals as goal
 
 pub returns-then-output-answers_size : goal.returns-then-output-answers_size
-returns-then-output-answers_size c = let good : opening c.args.input.now ≡ accept c.in-Ok.size = sym c.verdict-opened.ensures ∙ ap decision_of
-    c.in-Ok.is in
-    let needed : c.answers_size.result ≡ length (journal c.args.input.now) = let size = rw (rest_lent c.args.input.now c.in-Ok.size) at
-    c.answers_size.ensures in
-    size (machine_in c.args.input.now) (start_of (machine_in c.args.input.now)) ∙ ap length (sym (journal_opened c.args.input.now (good))) in
+returns-then-output-answers_size c =
+    let good : opening c.args.input.now ≡ accept c.in-Ok.size = sym c.verdict-opened.ensures ∙ ap decision_of c.in-Ok.is in
+    let needed = counted_whole c.args.input.now good c.answers_size.ensures in
     too_short _ _ (omega (arith, needed))
 
 pub run_all-requires : goal.run_all-requires
-run_all-requires c = let good : opening c.args.input.now ≡ accept c.in-Ok.size = sym c.verdict-opened.ensures ∙ ap decision_of c.in-Ok.is in
-    let needed : c.answers_size.result ≡ length (journal c.args.input.now) = let size = rw (rest_lent c.args.input.now c.in-Ok.size) at
-    c.answers_size.ensures in
-    size (machine_in c.args.input.now) (start_of (machine_in c.args.input.now)) ∙ ap length (sym (journal_opened c.args.input.now (good))) in
+run_all-requires c =
+    let good : opening c.args.input.now ≡ accept c.in-Ok.size = sym c.verdict-opened.ensures ∙ ap decision_of c.in-Ok.is in
+    let needed = counted_whole c.args.input.now good c.answers_size.ensures in
     (good, omega (arith, needed))
 
 pub returns-else-output-answers_size : goal.returns-else-output-answers_size
-returns-else-output-answers_size c = let good : opening c.args.input.now ≡ accept c.in-Ok.size = sym c.verdict-opened.ensures ∙ ap decision_of
-    c.in-Ok.is in
-    let needed : c.answers_size.result ≡ length (journal c.args.input.now) = let size = rw (rest_lent c.args.input.now c.in-Ok.size) at
-    c.answers_size.ensures in
-    size (machine_in c.args.input.now) (start_of (machine_in c.args.input.now)) ∙ ap length (sym (journal_opened c.args.input.now (good))) in
+returns-else-output-answers_size c =
+    let good : opening c.args.input.now ≡ accept c.in-Ok.size = sym c.verdict-opened.ensures ∙ ap decision_of c.in-Ok.is in
+    let needed = counted_whole c.args.input.now good c.answers_size.ensures in
     answered _ _ (omega (arith, needed)) c.run_all.ensures.0 c.run_all.ensures.1
 
 pub returns-then-output-lt-ANSWER_SIZE : goal.returns-then-output-lt-ANSWER_SIZE
-returns-then-output-lt-ANSWER_SIZE c = let bad : opening c.args.input.now ≡ refuse (number_of c.in-Err.why) = sym c.verdict-opened.ensures ∙ ap
-    decision_of c.in-Err.is in
+returns-then-output-lt-ANSWER_SIZE c =
+    let bad : opening c.args.input.now ≡ refuse (number_of c.in-Err.why) = sym c.verdict-opened.ensures ∙ ap decision_of c.in-Err.is in
     no_answer _ _ bad c.if-output-lt-ANSWER_SIZE.true
 
 pub returns-else-output-lt-ANSWER_SIZE : goal.returns-else-output-lt-ANSWER_SIZE
-returns-else-output-lt-ANSWER_SIZE c = let bad : opening c.args.input.now ≡ refuse (number_of c.in-Err.why) = sym c.verdict-opened.ensures ∙ ap
-    decision_of c.in-Err.is in
+returns-else-output-lt-ANSWER_SIZE c =
+    let bad : opening c.args.input.now ≡ refuse (number_of c.in-Err.why) = sym c.verdict-opened.ensures ∙ ap decision_of c.in-Err.is in
     one_answer _ _ bad c.if-output-lt-ANSWER_SIZE.false c.fault-fault.ensures c.copy.ensures.count c.copy.ensures.bytes
 
 pub slice_bounds-answers_size-start : goal.slice_bounds-answers_size-start
-slice_bounds-answers_size-start c = let good : opening c.args.input.now ≡ accept c.in-Ok.size = sym c.verdict-opened.ensures ∙ ap decision_of
-    c.in-Ok.is in
-    let inside : c.in-Ok.size ≤ length c.args.input.now = let g = good_opening c.args.input.now (good) in omega (arith, g.size, g.whole) in
-    let i = inside in search rules
+slice_bounds-answers_size-start c =
+    let good : opening c.args.input.now ≡ accept c.in-Ok.size = sym c.verdict-opened.ensures ∙ ap decision_of c.in-Ok.is in
+    let g = good_opening c.args.input.now good in
+    let inside : c.in-Ok.size ≤ length c.args.input.now = omega (arith, g.size, g.whole) in
+    search rules
 
 pub slice_bounds-answers_size-count : goal.slice_bounds-answers_size-count
-slice_bounds-answers_size-count c = let good : opening c.args.input.now ≡ accept c.in-Ok.size = sym c.verdict-opened.ensures ∙ ap decision_of
-    c.in-Ok.is in
-    let inside : c.in-Ok.size ≤ length c.args.input.now = let g = good_opening c.args.input.now (good) in omega (arith, g.size, g.whole) in
+slice_bounds-answers_size-count c =
+    let good : opening c.args.input.now ≡ accept c.in-Ok.size = sym c.verdict-opened.ensures ∙ ap decision_of c.in-Ok.is in
+    let g = good_opening c.args.input.now good in
+    let inside : c.in-Ok.size ≤ length c.args.input.now = omega (arith, g.size, g.whole) in
     inside

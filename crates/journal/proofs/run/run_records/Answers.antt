@@ -1,16 +1,9 @@
 -- `run_records` does one record after the other: those done and the part still to come are the part of the whole input.
 -- Assumes nothing.
-use Prim.Native.Nat.{◌+◌, ◌≤◌}
-use mathlib.Core.Path.{◌≡◌}
-use mathlib.Core.Bool.{true}
 use native.Mathlib.Omega.{arith}
 use borrow.Author.Rules.{rules}
 use borrow.Author.Tests.{not-true, not-false}
-use lib.ListN.{length}
-use Rattle.rules.specs.Calls.{Tables, tables_of}
-use Rattle.journal.specs.Passes.{passed}
-use Rattle.journal.specs.Parts.{Passed}
-use Rattle.rules.proofs.InOrder.{SameLengths, lengths_then, same_lengths_ok}
+use Rattle.rules.proofs.InOrder.{lengths_then, same_lengths_ok}
 use Rattle.journal.proofs.Output.{finished, lent_room, came, advanced, stopped}
 use Rattle.journal.proofs.run.run_records.Goals as goal
 
@@ -23,57 +16,32 @@ run_record-one-requires c = let i = c.loop-output.invariant in (
 )
 
 pub overflow_add-at : goal.overflow_add-at
-overflow_add-at c = let did : Passed = passed c.run_record-one.result
-    (tables_of c.run_record-one.new.pages c.run_record-one.new.jobs c.run_record-one.new.free c.run_record-one.new.maps) c.run_record-one.new.output
-    in
-    let far : (c.loop-output.at + (did).read ≤ length c.args.input.now) × (c.loop-output.written + (did).written ≤ length c.loop-output.output) ×
-    ((did).more ≡ true → 1 ≤ (did).read) = came c.loop-output.invariant.2 c.ready.ensures c.loop-output-test.true (did)
-    c.run_record-one.ensures.did in
-    let f = far in
-    search rules
+overflow_add-at c = let far = came c.loop-output.invariant.2 c.ready.ensures c.loop-output-test.true _ c.run_record-one.ensures.did in search rules
 
 pub overflow_add-written : goal.overflow_add-written
-overflow_add-written c = let did : Passed = passed c.run_record-one.result
-    (tables_of c.run_record-one.new.pages c.run_record-one.new.jobs c.run_record-one.new.free c.run_record-one.new.maps) c.run_record-one.new.output
-    in
-    let far : (c.loop-output.at + (did).read ≤ length c.args.input.now) × (c.loop-output.written + (did).written ≤ length c.loop-output.output) ×
-    ((did).more ≡ true → 1 ≤ (did).read) = came c.loop-output.invariant.2 c.ready.ensures c.loop-output-test.true (did)
-    c.run_record-one.ensures.did in
-    let f = far in
-    search rules
+overflow_add-written c = let far = came c.loop-output.invariant.2 c.ready.ensures c.loop-output-test.true _ c.run_record-one.ensures.did in search rules
 
 pub returns-then-not-one : goal.returns-then-not-one
-returns-then-not-one c = let did : Passed = passed c.run_record-one.result
-    (tables_of c.run_record-one.new.pages c.run_record-one.new.jobs c.run_record-one.new.free c.run_record-one.new.maps) c.run_record-one.new.output
-    in
-    stopped c.loop-output.invariant.2 c.ready.ensures c.loop-output-test.true did c.run_record-one.ensures.did (not-true _ c.if-not-one.true)
+returns-then-not-one c =
+    stopped c.loop-output.invariant.2 c.ready.ensures c.loop-output-test.true _ c.run_record-one.ensures.did (not-true _ c.if-not-one.true)
 
 pub loop-output-smaller : goal.loop-output-smaller
-loop-output-smaller c = let did : Passed = passed c.run_record-one.result
-    (tables_of c.run_record-one.new.pages c.run_record-one.new.jobs c.run_record-one.new.free c.run_record-one.new.maps) c.run_record-one.new.output
-    in
-    let far : (c.loop-output.at + (did).read ≤ length c.args.input.now) × (c.loop-output.written + (did).written ≤ length c.loop-output.output) ×
-    ((did).more ≡ true → 1 ≤ (did).read) = came c.loop-output.invariant.2 c.ready.ensures c.loop-output-test.true (did)
-    c.run_record-one.ensures.did in
-    let f = far in omega (arith, f.0, f.2 (not-false _ c.if-not-one.false))
+loop-output-smaller c =
+    let far = came c.loop-output.invariant.2 c.ready.ensures c.loop-output-test.true _ c.run_record-one.ensures.did in
+    omega (arith, far.0, far.2 (not-false _ c.if-not-one.false))
 
 pub loop-output-preserved : goal.loop-output-preserved
-loop-output-preserved c = let did : Passed = passed c.run_record-one.result
-    (tables_of c.run_record-one.new.pages c.run_record-one.new.jobs c.run_record-one.new.free c.run_record-one.new.maps) c.run_record-one.new.output
-    in
-    let tables : Tables = tables_of c.args.pages.now c.args.jobs.now c.args.free.now c.args.maps.now in
-    let stays : SameLengths (tables) (did).tables = lengths_then c.loop-output.invariant.0
-    (record {
-      ledger = c.run_record-one.auto.pages;
-      records = c.run_record-one.auto.jobs;
-      free = c.run_record-one.auto.free;
-      maps = c.run_record-one.auto.maps;
-    }) in (
-      stays,
-      search rules,
-      advanced c.loop-output.invariant.2 c.ready.ensures c.loop-output-test.true did c.run_record-one.ensures.did (not-false _ c.if-not-one.false),
-      c.run_record-one.ensures.kept,
-    )
+loop-output-preserved c = (
+  lengths_then c.loop-output.invariant.0 (record {
+    ledger = c.run_record-one.auto.pages;
+    records = c.run_record-one.auto.jobs;
+    free = c.run_record-one.auto.free;
+    maps = c.run_record-one.auto.maps;
+  }),
+  search rules,
+  advanced c.loop-output.invariant.2 c.ready.ensures c.loop-output-test.true _ c.run_record-one.ensures.did (not-false _ c.if-not-one.false),
+  c.run_record-one.ensures.kept,
+)
 
 pub returns : goal.returns
 returns c = finished c.loop-output.invariant.2 c.ready.ensures c.loop-output-test.false
