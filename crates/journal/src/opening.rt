@@ -8,7 +8,7 @@ ghost use Rattle.rules.specs.Journal.{byte_at, head_size, head_ok, counts_ok, ma
 ghost use Rattle.journal.specs.Opening.{opening_size};
 
 use super::reading::{byte_at, marked, u16_at};
-use rules::{Refusal};
+use rules::Refusal;
 
 // "at most 16,384 pages"
 pub const PAGES: usize = 16384;

@@ -12,7 +12,7 @@ mod reader;
 mod writer;
 
 use nodemask::Mask;
-use rules::{Refusal};
+use rules::Refusal;
 
 // The mask of the nodes that a text names, `nodes` being N and `allowed` the allowed set.
 pub fn read_nodes(nodes: usize, allowed: u64, text: &[u8]) -> Result<u64, Refusal>

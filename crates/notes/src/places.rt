@@ -63,7 +63,13 @@ fn turn_list(map: &[u8], table: &[u8], list: &[u8], out: &mut [u8]) -> Result<u6
 }
 
 // The tests 16 and 11, and the places of a note's list.
-pub fn turn_note(map: &[u8], table: &[u8], note: &[u8], which: u64, out: &mut [u8]) -> Result<u64, Refusal>
+pub fn turn_note(
+    map: &[u8],
+    table: &[u8],
+    note: &[u8],
+    which: u64,
+    out: &mut [u8],
+) -> Result<u64, Refusal>
     requires { (n : ℕ) × Tested n map.now table.now }
     ensures { wrote (decision_of result) out.new ≡ note_tests (strings table.now) (nodes_in map.now) note.now which out.old }
 {

@@ -20,10 +20,10 @@ pub fn keep_at(nodes: usize, jobs: &[u64], maps: &mut [u8], job: usize, kept: &[
     let Some(map) = judging::judge(nodes, bytes) else {
         return Err(Refusal::BadMap);
     };
-    let Some(new) = turning::keep(bytes, map.len, kept) else {
+    let Some(left) = turning::keep(bytes, map.len, kept) else {
         return Err(Refusal::BadMap);
     };
-    turning::store(maps, job, new);
+    turning::store(maps, job, left);
     Ok(Effect::Done)
 }
 

@@ -5,4 +5,4 @@ use borrow.Author.Rules.{rules}
 use Rattle.spirerivet.proofs.spire_drain.Goals as goal
 
 pub returns : goal.returns
-returns c = told_drain_lem c.number.ensures c.drain.ensures
+returns c = told_drain_lem c.from.ensures c.drain.ensures

@@ -5,4 +5,4 @@ use borrow.Author.Rules.{rules}
 use Rattle.spirerivet.proofs.spire_install.Goals as goal
 
 pub returns : goal.returns
-returns c = λ t. told_call c.numbers.ensures (c.install.ensures t)
+returns c = λ t. told_call c.from.ensures (c.install.ensures t)

@@ -5,4 +5,4 @@ use borrow.Author.Rules.{rules}
 use Rattle.spirerivet.proofs.spire_near.Goals as goal
 
 pub returns : goal.returns
-returns c = told_listing_lem c.numbers.ensures c.list_near.ensures
+returns c = told_listing_lem c.from.ensures c.list_near.ensures

@@ -5,4 +5,4 @@ use borrow.Author.Rules.{rules}
 use Rattle.spirerivet.proofs.spire_release.Goals as goal
 
 pub returns : goal.returns
-returns c = told_call c.numbers.ensures c.release.ensures
+returns c = told_call c.from.ensures c.release.ensures

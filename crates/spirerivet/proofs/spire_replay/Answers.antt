@@ -5,7 +5,7 @@ use borrow.Author.Rules.{rules}
 use Rattle.spirerivet.proofs.spire_replay.Goals as goal
 
 pub returns : goal.returns
-returns c = let said = c.number.ensures in
+returns c = let said = c.from.ensures in
     record {
       ran = told_run_lem said c.replay.ensures.ran;
       fair = c.replay.ensures.fair;

@@ -5,4 +5,4 @@ use borrow.Author.Rules.{rules}
 use Rattle.spirerivet.proofs.spire_write_note.Goals as goal
 
 pub returns : goal.returns
-returns c = told_written_lem c.number.ensures c.write_note.ensures
+returns c = told_written_lem c.from.ensures c.write_note.ensures

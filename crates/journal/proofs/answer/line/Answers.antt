@@ -8,4 +8,4 @@ use Rattle.journal.proofs.answer.line.Goals as goal
 
 pub returns : goal.returns
 unfolding answer_bytes bytes_of
-returns c = rw (sym c.numbers-n.ensures, c.to_le_bytes.ensures, bytes_le c.numbers-n.result.page)
+returns c = rw (sym c.from-n.ensures, c.to_le_bytes.ensures, bytes_le c.from-n.result.page)

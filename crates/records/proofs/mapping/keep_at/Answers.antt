@@ -41,13 +41,25 @@ keep-requires c = (rw c.of_job-bytes.ensures (map_long _ _ (in_table (goal.at.ke
 
 pub returns-in_default-keep : goal.returns-in_default-keep
 unfolding map_of is_mapped applied keep_decision on_keep
-returns-in_default-keep c t = rw (c.requires, found (goal.at.returns-in_default-keep c).Else-not-has_job, sym c.of_job-bytes.ensures,
-    c.in-Some.ensures.0, c.in_default-keep.ensures)
+returns-in_default-keep c t = rw (
+  c.requires,
+  found (goal.at.returns-in_default-keep c).Else-not-has_job,
+  sym c.of_job-bytes.ensures,
+  c.in-Some.ensures.0,
+  c.in_default-keep.ensures,
+)
 
 pub store-requires : goal.store-requires
 store-requires c = in_table (goal.at.store-requires c).Else-not-has_job
 
 pub returns : goal.returns
 unfolding map_of is_mapped put_map after_writes after_stores after_remaps applied keep_decision on_keep
-returns c t = rw (c.requires, found (goal.at.returns c).Else-not-has_job, sym c.of_job-bytes.ensures, c.in-Some.ensures.0,
-    c.in-Some-keep.ensures.0, c.store.ensures, c.in-Some-keep.ensures.1)
+returns c t = rw (
+  c.requires,
+  found (goal.at.returns c).Else-not-has_job,
+  sym c.of_job-bytes.ensures,
+  c.in-Some.ensures.0,
+  c.in-Some-keep.ensures.0,
+  c.store.ensures,
+  c.in-Some-keep.ensures.1,
+)

@@ -6,4 +6,4 @@ use Rattle.replay.proofs.encoding.answer_word.Goals as goal
 
 pub returns : goal.returns
 unfolding answer_word
-returns c = ap packed c.numbers-told.ensures
+returns c = ap packed c.from-told.ensures
