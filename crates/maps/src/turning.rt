@@ -60,12 +60,11 @@ pub fn turned_mask(bytes: &[u8], len: u8, user: u64) -> Mask
     out
 }
 
-// The first `count` of sixteen places are entries of a map of `len` nodes.
-pub fn places_within(places: [u8; PLACES_PER_JOB], count: usize, len: u8) -> bool
-    requires { count ≤ places_per_job }
-    ensures { result ≡ all (λ a. ltb a len) (take count places) }
+// All places are entries of a map of `len` nodes.
+pub fn places_within(places: &[u8], len: u8) -> bool
+    ensures { result ≡ all (λ a. ltb a len) places.now }
 {
-    places[..count].iter().all(|a| *a < len)
+    places.iter().all(|a| *a < len)
 }
 
 // The system node of a place, in a map of `len` nodes: its entry. 255 where it has none, so a closing 255 stays.
@@ -79,18 +78,13 @@ fn place_node(bytes: &[u8], len: u8, a: AppNode) -> SysNode
     SysNode(NO_NODE)
 }
 
-// The first `count` places as system nodes; zeros behind them.
-pub fn turned_places(
-    bytes: &[u8],
-    len: u8,
-    places: [u8; PLACES_PER_JOB],
-    count: usize,
-) -> [u8; PLACES_PER_JOB]
-    requires { (count ≤ places_per_job) × (len ≡ length (nodes_in bytes.now)) }
-    ensures { result ≡ take places_per_job (map (system_node (nodes_in bytes.now)) (take count places) ++ replicate places_per_job 0) }
+// At most sixteen places as system nodes; zeros behind them.
+pub fn turned_places(bytes: &[u8], len: u8, places: &[u8]) -> [u8; PLACES_PER_JOB]
+    requires { (length places.now ≤ places_per_job) × (len ≡ length (nodes_in bytes.now)) }
+    ensures { result ≡ take places_per_job (map (system_node (nodes_in bytes.now)) places.now ++ replicate places_per_job 0) }
 {
     let mut out = [0u8; PLACES_PER_JOB];
-    for (i, &place) in places[..count].iter().enumerate() {
+    for (i, &place) in places.iter().enumerate() {
         out[i] = place_node(bytes, len, AppNode(place)).0;
     }
     out

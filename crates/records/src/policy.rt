@@ -71,7 +71,7 @@ impl AppPolicy {
         let places = self.places;
         let user = Mask(self.user);
         ((self.flag == 2) | user.below(entries as usize))
-            & turning::places_within(places, self.naming(), entries)
+            & turning::places_within(&places[..self.naming()], entries)
     }
 
     // "User masks and places are turned into system nodes at install ..; a relative mask doesn't, being ranks already"
@@ -81,7 +81,7 @@ impl AppPolicy {
         ensures same { (result.mode ≡ self.mode) × (result.flag ≡ self.flag) × (result.len ≡ self.len) }
     {
         let asked = self.places;
-        let places = turning::turned_places(bytes, entries, asked, self.len);
+        let places = turning::turned_places(bytes, entries, &asked[..self.len]);
         let user = if self.flag == 2 {
             Mask(self.user)
         } else {

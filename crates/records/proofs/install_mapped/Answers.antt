@@ -46,7 +46,7 @@ within c p a = within_is (goal.at.Else-not-within c).After-within p a ∙ c.if-n
 
 fits_is : (c : After-fits) (p : Policy) → Asks c.args.policy p
     → policy_fits (carries (mode_of p.mode)) c.args.nodes (record_at c.args.jobs.now c.args.job).allowed (turned (nodes_in c.args.bytes.now) p)
-      ≡ c.fits.result
+    ≡ c.fits.result
 unfolding record_of
 fits_is c p a = let stands = c.turned-turned.ensures.stands p a in
     rw (sym c.load-old.ensures) (fits_turned _ _ _ p stands ∙ sym (c.fits.ensures _ stands.same_len))

@@ -4,7 +4,7 @@ use mathlib.Core.Path.{◌≡◌, ◌∙◌}
 use mathlib.Core.Logic.{inl}
 use mathlib.Core.List.{map}
 use native.Mathlib.Omega.{arith}
-use lib.ListN.{length, take, length-map, length-take}
+use lib.ListN.{length, length-map}
 use Rattle.rules.specs.Maps.{nodes_in, system_node}
 use Rattle.rules.proofs.Filled.{fill_none, fill_end}
 use Rattle.maps.proofs.MapNodes.{fill_node}
@@ -14,12 +14,11 @@ pub loop-i-init : goal.loop-i-init
 loop-i-init c = fill_none 16 0 _
 
 pub loop-i-preserved : goal.loop-i-preserved
-loop-i-preserved c = let xs = take c.args.count c.args.places in
-    rw c.loop-i.invariant
-    (fill_node 16 0 (system_node (nodes_in c.args.bytes.now)) xs c.loop-i.i c.place_node.result.0 c.loop-i-test.true
-    (omega (arith, length-take c.args.count c.args.places)) c.place_node.ensures)
+loop-i-preserved c = rw c.loop-i.invariant
+    (fill_node 16 0 (system_node (nodes_in c.args.bytes.now)) c.args.places.now c.loop-i.i c.place_node.result.0 c.loop-i-test.true
+    (omega arith) c.place_node.ensures)
 
 pub returns : goal.returns
-returns c = let kept = map (system_node (nodes_in c.args.bytes.now)) (take c.args.count c.args.places) in
+returns c = let kept = map (system_node (nodes_in c.args.bytes.now)) c.args.places.now in
     let all : c.loop-i.i ≡ length kept = rw length-map (omega arith) in
-    c.loop-i.invariant ∙ fill_end 16 0 kept c.loop-i.i (omega arith) (omega (arith, length-take c.args.count c.args.places)) (inl (omega arith))
+    c.loop-i.invariant ∙ fill_end 16 0 kept c.loop-i.i (omega arith) (omega arith) (inl (omega arith))
