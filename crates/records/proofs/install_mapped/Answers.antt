@@ -37,15 +37,15 @@ some : (c : Else-is_empty) → is_empty (record_at c.args.jobs.now c.args.job).a
 some c = empty_is (goal.at.Else-is_empty c).After-is_empty ∙ c.if-is_empty.false
 
 within_is : (c : After-within) (p : Policy) → Asks c.args.policy p
-    → (leb (length p.places) places_per_job && within_map (nodes_in c.args.bytes.now) p) ≡ c.within.result
-within_is c p a = sym (c.within.ensures.tests p (nodes_in c.args.bytes.now) a c.requires.3)
+    → (leb (length p.places) places_per_job && within_map (nodes_in c.args.map.bytes.now) p) ≡ c.within.result
+within_is c p a = sym (c.within.ensures.tests p (nodes_in c.args.map.bytes.now) a c.args.map.counted)
 
 within : (c : Else-not-within) (p : Policy) → Asks c.args.policy p
-    → (leb (length p.places) places_per_job && within_map (nodes_in c.args.bytes.now) p) ≡ true
+    → (leb (length p.places) places_per_job && within_map (nodes_in c.args.map.bytes.now) p) ≡ true
 within c p a = within_is (goal.at.Else-not-within c).After-within p a ∙ c.if-not-within.false
 
 fits_is : (c : After-fits) (p : Policy) → Asks c.args.policy p
-    → policy_fits (carries (mode_of p.mode)) c.args.nodes (record_at c.args.jobs.now c.args.job).allowed (turned (nodes_in c.args.bytes.now) p)
+    → policy_fits (carries (mode_of p.mode)) c.args.nodes (record_at c.args.jobs.now c.args.job).allowed (turned (nodes_in c.args.map.bytes.now) p)
     ≡ c.fits.result
 unfolding record_of
 fits_is c p a = let stands = c.turned-turned.ensures.stands p a in
@@ -73,8 +73,8 @@ returns-then-not-within c t p a = let at = goal.at.returns-then-not-within c in
 -- the map of the job is good, and the places are few enough
 pub turned-turned-requires : goal.turned-turned-requires
 turned-turned-requires c = let few = c.within.ensures.few (c.if-not-within.false) in
-    let good = good_small c.args.nodes c.args.bytes.now c.requires.1 c.requires.2 in
-    (few, c.requires.3, omega (arith, good.0, c.requires.3), good.1)
+    let good = good_small c.args.nodes c.args.map.bytes.now c.requires.1 c.requires.2 in
+    (few, omega (arith, good.0, c.args.map.counted), good.1)
 
 pub returns-then-not-fits : goal.returns-then-not-fits
 unfolding applied record_of
