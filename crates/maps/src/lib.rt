@@ -3,4 +3,5 @@
 #![tactic(auto)]
 
 pub mod judging;
+pub mod node_map;
 pub mod turning;

@@ -13,6 +13,7 @@ ghost use Rattle.records.specs.Jobs.{Asks};
 ghost use Rattle.records.specs.Installs.{install_tests};
 
 use job::Job;
+use maps::node_map::NodeMap;
 use maps::{judging, turning};
 use nodemask::Mask;
 use policy::AppPolicy;
@@ -25,17 +26,16 @@ pub mod record;
 pub mod table;
 pub mod words;
 
-// Install for a job with a good map of so many entries.
+// Install for a job with a good map.
 fn install_mapped(
     nodes: usize,
     jobs: &mut [u64],
-    bytes: &[u8],
-    entries: u8,
+    map: NodeMap,
     job: usize,
     policy: AppPolicy,
 ) -> Answer
-    requires { (job < job_count (length jobs.old)) × (nodes ≤ most_nodes) × (good_map nodes bytes.now ≡ true) × (entries ≡ length (nodes_in bytes.now)) }
-    ensures { (t : Tables) (p : Asked) → Asks policy p → outcome (answer_of result) (with_records t jobs.new) ≡ applied (with_records t jobs.old) (install_tests nodes (nodes_in bytes.now) (record_at jobs.old job) job p) }
+    requires { (job < job_count (length jobs.old)) × (nodes ≤ most_nodes) × (good_map nodes map.bytes.now ≡ true) }
+    ensures { let m = map.entry in (t : Tables) (p : Asked) → Asks policy p → outcome (answer_of result) (with_records t jobs.new) ≡ applied (with_records t jobs.old) (install_tests nodes (nodes_in m.bytes.now) (record_at jobs.old job) job p) }
 {
     let old = table::load(jobs, job);
     if !old.well_formed(nodes) {
@@ -48,10 +48,10 @@ fn install_mapped(
     if allowed.is_empty() {
         return Err(Refusal::NothingAllowed);
     }
-    if !policy.within(entries) {
+    if !policy.within(map.len) {
         return Err(Refusal::DoesNotFit);
     }
-    let turned = policy.turned(bytes, entries);
+    let turned = policy.turned(map);
     if !turned.fits(nodes, allowed) {
         return Err(Refusal::DoesNotFit);
     }
@@ -74,10 +74,14 @@ pub fn install_at(
         return Err(Refusal::NoSuchJob);
     }
     let bytes = turning::of_job(maps, job);
-    let Some(map) = judging::judge(nodes, bytes) else {
+    let Some(judged) = judging::judge(nodes, bytes) else {
         return Err(Refusal::BadMap);
     };
-    install_mapped(nodes, jobs, bytes, map.len, job, policy)
+    let map = NodeMap {
+        bytes,
+        len: judged.len,
+    };
+    install_mapped(nodes, jobs, map, job, policy)
 }
 
 // Rebind on tables that are in order.

@@ -5,6 +5,7 @@ ghost use Rattle.rules.specs.Calls.{Tables, with_jobs, outcome, mapped_tables_ok
 ghost use Rattle.rules.specs.Answers.{answer_of};
 
 use super::table;
+use maps::node_map::NodeMap;
 use maps::{judging, turning};
 use rules::{Answer, Effect, Refusal};
 
@@ -17,10 +18,14 @@ pub fn keep_at(nodes: usize, jobs: &[u64], maps: &mut [u8], job: usize, kept: &[
         return Err(Refusal::NoSuchJob);
     }
     let bytes = turning::of_job(maps, job);
-    let Some(map) = judging::judge(nodes, bytes) else {
+    let Some(judged) = judging::judge(nodes, bytes) else {
         return Err(Refusal::BadMap);
     };
-    let Some(left) = turning::keep(bytes, map.len, kept) else {
+    let map = NodeMap {
+        bytes,
+        len: judged.len,
+    };
+    let Some(left) = map.keep(kept) else {
         return Err(Refusal::BadMap);
     };
     turning::store(maps, job, left);

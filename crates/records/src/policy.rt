@@ -9,6 +9,7 @@ ghost use Rattle.rules.specs.Calls.{policy_known, mask_fits, policy_fits};
 ghost use Rattle.records.specs.Jobs.{asked, stands, Asks, Stands};
 
 use super::record::{Carries, Row};
+use maps::node_map::NodeMap;
 use maps::turning;
 use nodemask::Mask;
 use rules;
@@ -71,21 +72,21 @@ impl AppPolicy {
         let places = self.places;
         let user = Mask(self.user);
         ((self.flag == 2) | user.below(entries as usize))
-            & turning::places_within(places, self.naming(), entries)
+            & turning::places_within(&places[..self.naming()], entries)
     }
 
     // "User masks and places are turned into system nodes at install ..; a relative mask doesn't, being ranks already"
-    pub fn turned(self, bytes: &[u8], entries: u8) -> Policy
-        requires { (self.len ≤ places_per_job) × (entries ≡ length (nodes_in bytes.now)) × (entries ≤ map_size) × (all (λ k. ltb k most_nodes) (nodes_in bytes.now) ≡ true) }
-        ensures stands { (p : Asked) → Asks self p → Stands result (turned (nodes_in bytes.now) p) }
+    pub fn turned(self, map: NodeMap) -> Policy
+        requires { (self.len ≤ places_per_job) × (map.len ≤ map_size) × (all (λ k. ltb k most_nodes) (nodes_in map.bytes.now) ≡ true) }
+        ensures stands { let m = map.entry in (p : Asked) → Asks self p → Stands result (turned (nodes_in m.bytes.now) p) }
         ensures same { (result.mode ≡ self.mode) × (result.flag ≡ self.flag) × (result.len ≡ self.len) }
     {
         let asked = self.places;
-        let places = turning::turned_places(bytes, entries, asked, self.len);
+        let places = map.turned_places(&asked[..self.len]);
         let user = if self.flag == 2 {
             Mask(self.user)
         } else {
-            turning::turned_mask(bytes, entries, self.user)
+            map.turned_mask(self.user)
         };
         Policy {
             mode: self.mode,

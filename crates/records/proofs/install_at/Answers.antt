@@ -40,7 +40,7 @@ returns-in_default c t p a = rw (c.requires, found (goal.at.returns-in_default c
 
 pub install_mapped-requires : goal.install_mapped-requires
 install_mapped-requires c = let few = mapped_nodes _ (length c.args.jobs.now) (length c.args.maps.now) c.requires in
-    (ltb-true _ _ (found (goal.at.install_mapped-requires c).Else-not-has_job), few.1, c.in-Some.ensures.0, c.in-Some.ensures.2)
+    (ltb-true _ _ (found (goal.at.install_mapped-requires c).Else-not-has_job), few.1, c.in-Some.ensures.0)
 
 pub returns : goal.returns
 unfolding map_of is_mapped on_install

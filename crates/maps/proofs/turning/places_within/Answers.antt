@@ -8,7 +8,6 @@ use Rattle.std.proofs.Common.{rules, tests}
 use Rattle.std.proofs.lemmas.Iterator.{YieldsList-from_slice}
 use Rattle.std.proofs.lemmas.Iterator.Search.{all_from_yields_List}
 use lib.Dec.{ltb}
-use lib.ListN.{take}
 use Rattle.std.specs.List.{list_all}
 use Rattle.rules.specs.Basics.{all}
 use Rattle.maps.proofs.turning.places_within.Goals as goal
@@ -20,6 +19,6 @@ same_all p (x ∷ xs) = ap (λ (t : Bool). p x && t) (same_all p xs)
 
 pub returns : goal.returns
 returns c =
-    let places = take c.args.count c.args.places in
+    let places = c.args.places.now in
     all_from_yields_List (λ a. ltb a c.args.len) _ _ c.all.result c.all.ensures.ran (YieldsList-from_slice places cc) (λ x b q k. search (rules, tests))
     ∙ same_all (λ a. ltb a c.args.len) places

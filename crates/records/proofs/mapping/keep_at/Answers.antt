@@ -37,7 +37,7 @@ unfolding is_mapped applied keep_decision on_keep
 returns-in_default c t = rw (c.requires, found (goal.at.returns-in_default c).Else-not-has_job, sym c.of_job-bytes.ensures, c.in_default.ensures)
 
 pub keep-requires : goal.keep-requires
-keep-requires c = (rw c.of_job-bytes.ensures (map_long _ _ (in_table (goal.at.keep-requires c).Else-not-has_job)), c.in-Some.ensures.2)
+keep-requires c = rw c.of_job-bytes.ensures (map_long _ _ (in_table (goal.at.keep-requires c).Else-not-has_job))
 
 pub returns-in_default-keep : goal.returns-in_default-keep
 unfolding map_of is_mapped applied keep_decision on_keep
