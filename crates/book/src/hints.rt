@@ -71,13 +71,8 @@ pub fn release(
 }
 
 // The fresh table on tables that are in order: no page is held.
-pub fn fresh(
-    layout: Layout,
-    hints: &mut [u32; HINTS],
-    pages: &mut [u8],
-    free: &mut [u32],
-) -> Answer
-    requires { (fresh_tables_ok layout.counts.now (length pages.old) (length free.old) ≡ true) }
+pub fn fresh(layout: Layout, hints: &mut [u32; HINTS], pages: &mut [u8], free: &mut [u32]) -> Answer
+    requires { fresh_tables_ok layout.counts.now (length pages.old) (length free.old) ≡ true }
     ensures did { let l = layout.entry in (t : Tables) → outcome (answer_of result) (with_pages t pages.new free.new) ≡ on_fresh l.counts.now (with_pages t pages.old free.old) }
     ensures kept { let l = layout.entry in Hints l.counts.now pages.new hints.new }
 {
