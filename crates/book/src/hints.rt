@@ -32,7 +32,7 @@ pub fn request(
 ) -> Answer
     requires { (request_tables_ok (machine_of layout.counts.now cpus.now distances.now) (tables_of pages.old jobs.old free.old maps.now) ≡ true) × Hints layout.counts.now pages.old hints.old }
     ensures did { let l = layout.entry in outcome (answer_of result) (tables_of pages.new jobs.new free.new maps.now) ≡ on_request (machine_of l.counts.now cpus.now distances.now) (tables_of pages.old jobs.old free.old maps.now) job cpu }
-    ensures kept { let l = layout.entry in Hints l.counts.now pages.new hints.new }
+    ensures kept { Hints layout.entry.counts.now pages.new hints.new }
 {
     let placed = placement::request_at(
         layout,
@@ -63,7 +63,7 @@ pub fn release(
 ) -> Answer
     requires { (release_tables_ok layout.counts.now (tables_of pages.old jobs.now free.old maps.now) ≡ true) × Hints layout.counts.now pages.old hints.old }
     ensures did { let l = layout.entry in outcome (answer_of result) (tables_of pages.new jobs.now free.new maps.now) ≡ on_release l.counts.now (tables_of pages.old jobs.now free.old maps.now) job page }
-    ensures kept { let l = layout.entry in Hints l.counts.now pages.new hints.new }
+    ensures kept { Hints layout.entry.counts.now pages.new hints.new }
 {
     let placed = placement::release_at(layout, pages, jobs, free, maps, job, page);
     hinting::keep(layout, hints, job, placed);
@@ -74,7 +74,7 @@ pub fn release(
 pub fn fresh(layout: Layout, hints: &mut [u32; HINTS], pages: &mut [u8], free: &mut [u32]) -> Answer
     requires { fresh_tables_ok layout.counts.now (length pages.old) (length free.old) ≡ true }
     ensures did { let l = layout.entry in (t : Tables) → outcome (answer_of result) (with_pages t pages.new free.new) ≡ on_fresh l.counts.now (with_pages t pages.old free.old) }
-    ensures kept { let l = layout.entry in Hints l.counts.now pages.new hints.new }
+    ensures kept { Hints layout.entry.counts.now pages.new hints.new }
 {
     *hints = [0; HINTS];
     placement::fresh_at(layout, pages, free)
@@ -94,7 +94,7 @@ pub fn drain_node(
 ) -> Answer
     requires { (drain_tables_ok layout.counts.now distances.now (tables_of pages.old jobs.now free.old maps.now) ≡ true) × Hints layout.counts.now pages.old hints.old }
     ensures did { let l = layout.entry in outcome (answer_of result) (tables_of pages.new jobs.now free.new maps.now) ≡ applied (tables_of pages.old jobs.now free.old maps.now) (drain_decision l.counts.now distances.now node (tables_of pages.old jobs.now free.old maps.now) room) }
-    ensures kept { let l = layout.entry in Hints l.counts.now pages.new hints.new }
+    ensures kept { Hints layout.entry.counts.now pages.new hints.new }
 {
     let mut none = [0u32; 1];
     let moves = drain::drain_at(

@@ -76,7 +76,7 @@ pub fn perform(
 ) -> Answer
     requires { (request_tables_ok (machine_of layout.counts.now cpus.now distances.now) (tables_of pages.old jobs.old free.old maps.old) ≡ true) × Hints layout.counts.now pages.old hints.old }
     ensures did { let l = layout.entry in (c : LawCall) → Says call places list.now c → outcome (answer_of result) (tables_of pages.new jobs.new free.new maps.new) ≡ step (machine_of l.counts.now cpus.now distances.now) (tables_of pages.old jobs.old free.old maps.old) c }
-    ensures kept { let l = layout.entry in Hints l.counts.now pages.new hints.new }
+    ensures kept { Hints layout.entry.counts.now pages.new hints.new }
 {
     let nodes = layout.counts.len();
     match call {

@@ -11,7 +11,7 @@ use pages;
 // How many free pages a node has.
 fn free_of(layout: Layout, pages: &[u8], node: usize) -> usize
     requires { Paged layout.counts.now layout.starts.now pages.now × (node < length layout.counts.now) }
-    ensures { let l = layout.entry in result ≡ length (free_pages l.counts.now pages.now node) }
+    ensures { result ≡ length (free_pages layout.entry.counts.now pages.now node) }
 {
     let start = layout.starts[node] as usize;
     let end = layout.starts[node + 1] as usize;
@@ -21,7 +21,7 @@ fn free_of(layout: Layout, pages: &[u8], node: usize) -> usize
 // Is every node's count the number of its free pages?
 pub fn counts_match(layout: Layout, pages: &[u8], free: &[u32]) -> bool
     requires { Paged layout.counts.now layout.starts.now pages.now × (length free.now ≡ length layout.counts.now) }
-    ensures { let l = layout.entry in result ≡ same free.now (free_counts l.counts.now pages.now) }
+    ensures { result ≡ same free.now (free_counts layout.entry.counts.now pages.now) }
 {
     for (node, count) in free.iter().enumerate() {
         if *count as usize != free_of(layout, pages, node) {

@@ -71,7 +71,7 @@ pub fn drain_at(
     ensures answer { let l = layout.entry in decision_of result ≡ count_of (drain_moves l.counts.now distances.now node (tables_of pages.old jobs.now free.old maps.now) room) }
     ensures tables { let l = layout.entry in tables_of pages.new jobs.now free.new maps.now ≡ tables_after node (tables_of pages.old jobs.now free.old maps.now) (drain_moves l.counts.now distances.now node (tables_of pages.old jobs.now free.old maps.now) room) }
     ensures pairs { let l = layout.entry in room ≡ length out.old → out.new ≡ pairs_after out.old (drain_moves l.counts.now distances.now node (tables_of pages.old jobs.now free.old maps.now) room) }
-    ensures kept { let l = layout.entry in Hints l.counts.now pages.new hints.new }
+    ensures kept { Hints layout.entry.counts.now pages.new hints.new }
 {
     let nodes = layout.counts.len();
     if node >= nodes {

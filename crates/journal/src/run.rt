@@ -44,7 +44,7 @@ fn run_record(
 ) -> Part
     requires { (request_tables_ok (machine_of layout.counts.now cpus.now distances.now) (tables_of pages.old jobs.old free.old maps.old) ≡ true) × (answer_size ≤ length output.old) × Hints layout.counts.now pages.old hints.old }
     ensures did { let l = layout.entry in passed result (tables_of pages.new jobs.new free.new maps.new) output.new ≡ put_into output.old (one_record (machine_of l.counts.now cpus.now distances.now) (tables_of pages.old jobs.old free.old maps.old) input.now) }
-    ensures kept { let l = layout.entry in Hints l.counts.now pages.new hints.new }
+    ensures kept { Hints layout.entry.counts.now pages.new hints.new }
 {
     match read_record(input) {
         Some(entry) => {
