@@ -7,19 +7,19 @@ ghost use Rattle.std.specs.Prelude.{true, ◌≡◌, length};
 ghost use Rattle.rules.specs.Answers.{answer_of};
 ghost use Rattle.rules.specs.Drain.{drain_tables_ok, drain_decision};
 ghost use Rattle.rules.specs.Calls.{Tables, tables_of, with_pages, outcome, applied, request_tables_ok, release_tables_ok, fresh_tables_ok, on_request, on_release, on_fresh};
-ghost use Rattle.machine.specs.Tables.{machine_of, Starts};
+ghost use Rattle.machine.specs.Tables.{machine_of};
 ghost use Rattle.placement.specs.Hints.{Hints};
 
 use drain;
+use machine::layout::Layout;
 use placement;
 use placement::hinting::HINTS;
 use placement::{hinting, placed};
-use rules::{Answer, Effect, MOST_NODES};
+use rules::{Answer, Effect};
 
 // A request on tables that are in order.
 pub fn request(
-    counts: &[u32],
-    starts: &[u32; MOST_NODES + 1],
+    layout: Layout,
     hints: &mut [u32; HINTS],
     cpus: &[u8],
     distances: &[u8],
@@ -30,13 +30,12 @@ pub fn request(
     job: usize,
     cpu: usize,
 ) -> Answer
-    requires { (request_tables_ok (machine_of counts.now cpus.now distances.now) (tables_of pages.old jobs.old free.old maps.now) ≡ true) × Starts counts.now starts.now × Hints counts.now pages.old hints.old }
-    ensures did { outcome (answer_of result) (tables_of pages.new jobs.new free.new maps.now) ≡ on_request (machine_of counts.now cpus.now distances.now) (tables_of pages.old jobs.old free.old maps.now) job cpu }
-    ensures kept { Hints counts.now pages.new hints.new }
+    requires { (request_tables_ok (machine_of layout.counts.now cpus.now distances.now) (tables_of pages.old jobs.old free.old maps.now) ≡ true) × Hints layout.counts.now pages.old hints.old }
+    ensures did { let l = layout.entry in outcome (answer_of result) (tables_of pages.new jobs.new free.new maps.now) ≡ on_request (machine_of l.counts.now cpus.now distances.now) (tables_of pages.old jobs.old free.old maps.now) job cpu }
+    ensures kept { Hints layout.entry.counts.now pages.new hints.new }
 {
     let placed = placement::request_at(
-        counts,
-        starts,
+        layout,
         &hints[..],
         cpus,
         distances,
@@ -47,14 +46,13 @@ pub fn request(
         job,
         cpu,
     );
-    hinting::keep(starts, hints, job, placed);
+    hinting::keep(layout, hints, job, placed);
     placed::tell(maps, job, placed)
 }
 
 // A release on tables that are in order.
 pub fn release(
-    counts: &[u32],
-    starts: &[u32; MOST_NODES + 1],
+    layout: Layout,
     hints: &mut [u32; HINTS],
     pages: &mut [u8],
     jobs: &[u64],
@@ -63,35 +61,28 @@ pub fn release(
     job: usize,
     page: usize,
 ) -> Answer
-    requires { (release_tables_ok counts.now (tables_of pages.old jobs.now free.old maps.now) ≡ true) × Starts counts.now starts.now × Hints counts.now pages.old hints.old }
-    ensures did { outcome (answer_of result) (tables_of pages.new jobs.now free.new maps.now) ≡ on_release counts.now (tables_of pages.old jobs.now free.old maps.now) job page }
-    ensures kept { Hints counts.now pages.new hints.new }
+    requires { (release_tables_ok layout.counts.now (tables_of pages.old jobs.now free.old maps.now) ≡ true) × Hints layout.counts.now pages.old hints.old }
+    ensures did { let l = layout.entry in outcome (answer_of result) (tables_of pages.new jobs.now free.new maps.now) ≡ on_release l.counts.now (tables_of pages.old jobs.now free.old maps.now) job page }
+    ensures kept { Hints layout.entry.counts.now pages.new hints.new }
 {
-    let placed = placement::release_at(counts, starts, pages, jobs, free, maps, job, page);
-    hinting::keep(starts, hints, job, placed);
+    let placed = placement::release_at(layout, pages, jobs, free, maps, job, page);
+    hinting::keep(layout, hints, job, placed);
     placed::tell(maps, job, placed)
 }
 
 // The fresh table on tables that are in order: no page is held.
-pub fn fresh(
-    counts: &[u32],
-    starts: &[u32; MOST_NODES + 1],
-    hints: &mut [u32; HINTS],
-    pages: &mut [u8],
-    free: &mut [u32],
-) -> Answer
-    requires { (fresh_tables_ok counts.now (length pages.old) (length free.old) ≡ true) × Starts counts.now starts.now }
-    ensures did { (t : Tables) → outcome (answer_of result) (with_pages t pages.new free.new) ≡ on_fresh counts.now (with_pages t pages.old free.old) }
-    ensures kept { Hints counts.now pages.new hints.new }
+pub fn fresh(layout: Layout, hints: &mut [u32; HINTS], pages: &mut [u8], free: &mut [u32]) -> Answer
+    requires { fresh_tables_ok layout.counts.now (length pages.old) (length free.old) ≡ true }
+    ensures did { let l = layout.entry in (t : Tables) → outcome (answer_of result) (with_pages t pages.new free.new) ≡ on_fresh l.counts.now (with_pages t pages.old free.old) }
+    ensures kept { Hints layout.entry.counts.now pages.new hints.new }
 {
     *hints = [0; HINTS];
-    placement::fresh_at(counts, starts, pages, free)
+    placement::fresh_at(layout, pages, free)
 }
 
 // A drain on tables that are in order. The pairs are not handed out; `room` is what the call says it has for them.
 pub fn drain_node(
-    counts: &[u32],
-    starts: &[u32; MOST_NODES + 1],
+    layout: Layout,
     hints: &mut [u32; HINTS],
     distances: &[u8],
     pages: &mut [u8],
@@ -101,14 +92,13 @@ pub fn drain_node(
     node: usize,
     room: usize,
 ) -> Answer
-    requires { (drain_tables_ok counts.now distances.now (tables_of pages.old jobs.now free.old maps.now) ≡ true) × Starts counts.now starts.now × Hints counts.now pages.old hints.old }
-    ensures did { outcome (answer_of result) (tables_of pages.new jobs.now free.new maps.now) ≡ applied (tables_of pages.old jobs.now free.old maps.now) (drain_decision counts.now distances.now node (tables_of pages.old jobs.now free.old maps.now) room) }
-    ensures kept { Hints counts.now pages.new hints.new }
+    requires { (drain_tables_ok layout.counts.now distances.now (tables_of pages.old jobs.now free.old maps.now) ≡ true) × Hints layout.counts.now pages.old hints.old }
+    ensures did { let l = layout.entry in outcome (answer_of result) (tables_of pages.new jobs.now free.new maps.now) ≡ applied (tables_of pages.old jobs.now free.old maps.now) (drain_decision l.counts.now distances.now node (tables_of pages.old jobs.now free.old maps.now) room) }
+    ensures kept { Hints layout.entry.counts.now pages.new hints.new }
 {
     let mut none = [0u32; 1];
     let moves = drain::drain_at(
-        counts,
-        starts,
+        layout,
         hints,
         distances,
         pages,

@@ -6,14 +6,15 @@ ghost use Rattle.std.specs.Prelude.{true, ◌≡◌};
 ghost use Rattle.rules.specs.Answers.{answer_of};
 ghost use Rattle.rules.specs.Calls.{tables_of, outcome, request_tables_ok};
 ghost use Rattle.rules.specs.Book.{Call as LawCall, step};
-ghost use Rattle.machine.specs.Tables.{machine_of, Starts};
+ghost use Rattle.machine.specs.Tables.{machine_of};
 ghost use Rattle.placement.specs.Hints.{Hints};
 ghost use Rattle.book.specs.Says.{Says};
 
+use machine::layout::Layout;
 use placement::hinting::HINTS;
 use records;
 use records::policy::AppPolicy;
-use rules::{Answer, MOST_NODES, PLACES_PER_JOB};
+use rules::{Answer, PLACES_PER_JOB};
 
 mod hints;
 mod lists;
@@ -61,8 +62,7 @@ pub enum Call {
 
 // Runs a call on tables that are in order, and keeps the hints.
 pub fn perform(
-    counts: &[u32],
-    starts: &[u32; MOST_NODES + 1],
+    layout: Layout,
     hints: &mut [u32; HINTS],
     cpus: &[u8],
     distances: &[u8],
@@ -74,19 +74,19 @@ pub fn perform(
     places: [u8; PLACES_PER_JOB],
     list: &[u8],
 ) -> Answer
-    requires { (request_tables_ok (machine_of counts.now cpus.now distances.now) (tables_of pages.old jobs.old free.old maps.old) ≡ true) × Starts counts.now starts.now × Hints counts.now pages.old hints.old }
-    ensures did { (c : LawCall) → Says call places list.now c → outcome (answer_of result) (tables_of pages.new jobs.new free.new maps.new) ≡ step (machine_of counts.now cpus.now distances.now) (tables_of pages.old jobs.old free.old maps.old) c }
-    ensures kept { Hints counts.now pages.new hints.new }
+    requires { (request_tables_ok (machine_of layout.counts.now cpus.now distances.now) (tables_of pages.old jobs.old free.old maps.old) ≡ true) × Hints layout.counts.now pages.old hints.old }
+    ensures did { let l = layout.entry in (c : LawCall) → Says call places list.now c → outcome (answer_of result) (tables_of pages.new jobs.new free.new maps.new) ≡ step (machine_of l.counts.now cpus.now distances.now) (tables_of pages.old jobs.old free.old maps.old) c }
+    ensures kept { Hints layout.entry.counts.now pages.new hints.new }
 {
-    let nodes = counts.len();
+    let nodes = layout.counts.len();
     match call {
         Call::Request { job, cpu } => {
             hints::request(
-                counts, starts, hints, cpus, distances, pages, jobs, free, maps, job, cpu,
+                layout, hints, cpus, distances, pages, jobs, free, maps, job, cpu,
             )
         }
         Call::Release { job, page } => {
-            hints::release(counts, starts, hints, pages, jobs, free, maps, job, page)
+            hints::release(layout, hints, pages, jobs, free, maps, job, page)
         }
         Call::Rebind { job, allowed } => records::rebind_at(nodes, jobs, job, allowed),
         Call::Install {
@@ -106,11 +106,11 @@ pub fn perform(
             records::install_at(nodes, jobs, maps, job, policy)
         }
         Call::Clear { job } => records::clear_at(nodes, jobs, job),
-        Call::Fresh => hints::fresh(counts, starts, hints, pages, free),
+        Call::Fresh => hints::fresh(layout, hints, pages, free),
         Call::Keep { job, len } => lists::keep(nodes, jobs, maps, job, list, len),
         Call::SetMap { job, len } => lists::set(nodes, jobs, maps, job, list, len),
         Call::Drain { node, room } => hints::drain_node(
-            counts, starts, hints, distances, pages, jobs, free, maps, node, room,
+            layout, hints, distances, pages, jobs, free, maps, node, room,
         ),
     }
 }

@@ -8,6 +8,7 @@ ghost use Rattle.rules.specs.Drain.{held_pages, moves};
 ghost use Rattle.drain.specs.Goals.{near_others, may_move, limit_in, opens, goal_by, goal_of, holder_of, AllShut, Kept, Met, Ordered, after_move, passes};
 ghost use Rattle.drain.specs.Reached.{Drainable, Goes};
 
+use machine::layout::Layout;
 use maps::{judging, turning};
 use nodemask::Mask;
 use placement;
@@ -31,12 +32,10 @@ pub type MetJobs = [Option<MetJob>; BYTES];
 // At first no job has been met.
 pub const NONE_MET: MetJobs = [None; BYTES];
 
-// What a drain reads and does not write: page counts, where each node's pages begin, the node x that is drained, the other nodes, nearest first, job
-// table and maps.
+// What a drain reads and does not write: the pages of the nodes, the node x that is drained, the other nodes, nearest first, job table and maps.
 #[derive(Clone, Copy)]
 pub struct Board<'a> {
-    pub counts: &'a [u32],
-    pub starts: &'a [u32; MOST_NODES + 1],
+    pub layout: Layout<'a>,
     pub x: SysNode,
     pub order: &'a [u8],
     pub jobs: &'a [u64],
@@ -61,13 +60,13 @@ fn holder_of(nodes: usize, jobs: &[u64], maps: &[u8], byte: u8) -> Option<Mask>
 
 // The job of a byte, as it is kept, or judged now if it has not been met before; or none: its pages may not be moved.
 fn met_job(board: Board, met: &MetJobs, byte: u8) -> Option<MetJob>
-    requires { (mapped_tables_ok (length board.counts.now) (length board.jobs.now) (length board.maps.now) ≡ true) × (0 < byte) }
-    ensures { let b = board.entry in MatchOption result (may_move (length b.counts.now) b.jobs.now b.maps.now (byte - 1) ≡ false) (λ job. (order free : List ℕ) → Met (length b.counts.now) order b.jobs.now b.maps.now free met.now → Kept (length b.counts.now) order b.jobs.now b.maps.now free job byte) }
+    requires { (mapped_tables_ok (length board.layout.counts.now) (length board.jobs.now) (length board.maps.now) ≡ true) × (0 < byte) }
+    ensures { let b = board.entry in MatchOption result (may_move (length b.layout.counts.now) b.jobs.now b.maps.now (byte - 1) ≡ false) (λ job. (order free : List ℕ) → Met (length b.layout.counts.now) order b.jobs.now b.maps.now free met.now → Kept (length b.layout.counts.now) order b.jobs.now b.maps.now free job byte) }
 {
     if let Some(job) = met[byte as usize] {
         return Some(job);
     }
-    let limit = holder_of(board.counts.len(), board.jobs, board.maps, byte)?;
+    let limit = holder_of(board.layout.counts.len(), board.jobs, board.maps, byte)?;
     Some(MetJob { limit, from: 0 })
 }
 
@@ -86,9 +85,9 @@ fn next_open(order: &[u8], free: &[u32], limit: Mask, from: usize) -> Option<usi
 
 // Where a page that has this byte goes.
 pub fn goal_of(board: Board, free: &[u32], met: &mut MetJobs, byte: u8) -> Option<SysNode>
-    requires { (mapped_tables_ok (length board.counts.now) (length board.jobs.now) (length board.maps.now) ≡ true) × (0 < byte) × (length board.order.now ≤ 64) × Met (length board.counts.now) board.order.now board.jobs.now board.maps.now free.now met.old }
-    ensures goes { let b = board.entry in goal_of result ≡ goal_by (length b.counts.now) b.order.now b.jobs.now b.maps.now free.now (byte - 1) }
-    ensures kept { let b = board.entry in Met (length b.counts.now) b.order.now b.jobs.now b.maps.now free.now met.new }
+    requires { (mapped_tables_ok (length board.layout.counts.now) (length board.jobs.now) (length board.maps.now) ≡ true) × (0 < byte) × (length board.order.now ≤ 64) × Met (length board.layout.counts.now) board.order.now board.jobs.now board.maps.now free.now met.old }
+    ensures goes { let b = board.entry in goal_of result ≡ goal_by (length b.layout.counts.now) b.order.now b.jobs.now b.maps.now free.now (byte - 1) }
+    ensures kept { let b = board.entry in Met (length b.layout.counts.now) b.order.now b.jobs.now b.maps.now free.now met.new }
 {
     let job = met_job(board, met, byte)?;
     let at = next_open(board.order, free, job.limit, job.from as usize)?;
@@ -114,11 +113,11 @@ pub fn count_move(free: &mut [u32], x: SysNode, node: SysNode)
 
 // A page of node x that has this byte: has it somewhere to go? Its move is counted; a free page has none.
 fn pass(board: Board, free: &mut [u32], met: &mut MetJobs, byte: u8) -> bool
-    requires { (mapped_tables_ok (length board.counts.now) (length board.jobs.now) (length board.maps.now) ≡ true) × Ordered (length board.counts.now) board.x.0 board.order.now free.old × Met (length board.counts.now) board.order.now board.jobs.now board.maps.now free.old met.old × (get_or free.old board.x.0 0 < 4294967295) }
+    requires { (mapped_tables_ok (length board.layout.counts.now) (length board.jobs.now) (length board.maps.now) ≡ true) × Ordered (length board.layout.counts.now) board.x.0 board.order.now free.old × Met (length board.layout.counts.now) board.order.now board.jobs.now board.maps.now free.old met.old × (get_or free.old board.x.0 0 < 4294967295) }
     ensures stays { byte ≡ 0 → (result ≡ true) × (free.new ≡ free.old) }
-    ensures stuck { let b = board.entry in 0 < byte → goal_by (length b.counts.now) b.order.now b.jobs.now b.maps.now free.old (byte - 1) ≡ none → result ≡ false }
-    ensures goes { let b = board.entry in 0 < byte → (k : ℕ) → goal_by (length b.counts.now) b.order.now b.jobs.now b.maps.now free.old (byte - 1) ≡ some k → (result ≡ true) × (free.new ≡ after_move b.x.0 free.old k) }
-    ensures kept { let b = board.entry in Met (length b.counts.now) b.order.now b.jobs.now b.maps.now free.new met.new }
+    ensures stuck { let b = board.entry in 0 < byte → goal_by (length b.layout.counts.now) b.order.now b.jobs.now b.maps.now free.old (byte - 1) ≡ none → result ≡ false }
+    ensures goes { let b = board.entry in 0 < byte → (k : ℕ) → goal_by (length b.layout.counts.now) b.order.now b.jobs.now b.maps.now free.old (byte - 1) ≡ some k → (result ≡ true) × (free.new ≡ after_move b.x.0 free.old k) }
+    ensures kept { let b = board.entry in Met (length b.layout.counts.now) b.order.now b.jobs.now b.maps.now free.new met.new }
 {
     if byte == 0 {
         return true;
@@ -134,8 +133,8 @@ fn pass(board: Board, free: &mut [u32], met: &mut MetJobs, byte: u8) -> bool
 
 // Have all pages of node x that have these bytes somewhere to go? Each move is counted.
 fn all_pass(board: Board, free: &mut [u32], part: &[u8]) -> bool
-    requires { (mapped_tables_ok (length board.counts.now) (length board.jobs.now) (length board.maps.now) ≡ true) × Ordered (length board.counts.now) board.x.0 board.order.now free.old × (get_or free.old board.x.0 0 + length part.now ≤ 4294967295) }
-    ensures { let b = board.entry in result ≡ passes (length b.counts.now) b.order.now b.jobs.now b.maps.now b.x.0 free.old part.now }
+    requires { (mapped_tables_ok (length board.layout.counts.now) (length board.jobs.now) (length board.maps.now) ≡ true) × Ordered (length board.layout.counts.now) board.x.0 board.order.now free.old × (get_or free.old board.x.0 0 + length part.now ≤ 4294967295) }
+    ensures { let b = board.entry in result ≡ passes (length b.layout.counts.now) b.order.now b.jobs.now b.maps.now b.x.0 free.old part.now }
 {
     let mut met = NONE_MET;
     for byte in part {
@@ -148,13 +147,13 @@ fn all_pass(board: Board, free: &mut [u32], part: &[u8]) -> bool
 
 // Has every held page of node x somewhere to go? By counts of its own, so that nothing is written.
 pub fn all_go(board: Board, pages: &[u8], free: &[u32]) -> bool
-    requires { (mapped_tables_ok (length board.counts.now) (length board.jobs.now) (length board.maps.now) ≡ true) × Drainable board.counts.now board.starts.now board.x.0 board.order.now pages.now free.now }
-    ensures { let b = board.entry in (distances : List ℕ) → b.order.now ≡ near_others (length b.counts.now) distances b.x.0 → Goes result (moves b.counts.now distances b.x.0 (tables_of pages.now b.jobs.now free.now b.maps.now) (held_pages b.counts.now pages.now b.x.0)) }
+    requires { (mapped_tables_ok (length board.layout.counts.now) (length board.jobs.now) (length board.maps.now) ≡ true) × Drainable board.layout.counts.now board.layout.starts.now board.x.0 board.order.now pages.now free.now }
+    ensures { let b = board.entry in (distances : List ℕ) → b.order.now ≡ near_others (length b.layout.counts.now) distances b.x.0 → Goes result (moves b.layout.counts.now distances b.x.0 (tables_of pages.now b.jobs.now free.now b.maps.now) (held_pages b.layout.counts.now pages.now b.x.0)) }
 {
-    let start = board.starts[board.x.0 as usize] as usize;
-    let end = board.starts[board.x.0 as usize + 1] as usize;
+    let start = board.layout.starts[board.x.0 as usize] as usize;
+    let end = board.layout.starts[board.x.0 as usize + 1] as usize;
     let mut copies = [0u32; MOST_NODES];
-    let copy = &mut copies[..board.counts.len()];
+    let copy = &mut copies[..board.layout.counts.len()];
     copy.copy_from_slice(free);
     all_pass(board, copy, &pages[start..end])
 }

@@ -9,17 +9,17 @@ ghost use Rattle.rules.specs.Calls.{tables_of, mapped_tables_ok};
 ghost use Rattle.drain.specs.Goals.{near_others};
 ghost use Rattle.drain.specs.Reached.{Drainable};
 ghost use Rattle.rules.specs.Drain.{drain_tables_ok, moves_within, drain_moves, did_drain, on_drain};
-ghost use Rattle.machine.specs.Tables.{Starts};
 ghost use Rattle.placement.specs.Hints.{Hints};
 ghost use Rattle.drain.specs.Outcomes.{count_of, tables_after, pairs_after};
 
 use goals::Board;
 use machine;
+use machine::layout::Layout;
 use machine::listing;
 use nodemask::Mask;
 use placement;
 use placement::hinting::HINTS;
-use rules::{MOST_NODES, Refusal, SysNode};
+use rules::{Refusal, SysNode};
 
 mod counting;
 pub mod goals;
@@ -35,18 +35,18 @@ fn drain_by(
     room: usize,
     out: &mut [u32],
 ) -> Result<u64, Refusal>
-    requires maps_value { (mapped_tables_ok (length board.counts.now) (length board.jobs.now) (length board.maps.now) ≡ true) × Drainable board.counts.now board.starts.now board.x.0 board.order.now pages.old free.old × Hints board.counts.now pages.old hints.old }
-    requires by_index { (distances : List ℕ) × (board.order.now ≡ near_others (length board.counts.now) distances board.x.0) }
-    ensures answer { let b = board.entry in (distances : List ℕ) → b.order.now ≡ near_others (length b.counts.now) distances b.x.0 → decision_of result ≡ count_of (moves_within b.counts.now distances b.x.0 (tables_of pages.old b.jobs.now free.old b.maps.now) room) }
-    ensures tables { let b = board.entry in (distances : List ℕ) → b.order.now ≡ near_others (length b.counts.now) distances b.x.0 → tables_of pages.new b.jobs.now free.new b.maps.now ≡ tables_after b.x.0 (tables_of pages.old b.jobs.now free.old b.maps.now) (moves_within b.counts.now distances b.x.0 (tables_of pages.old b.jobs.now free.old b.maps.now) room) }
-    ensures pairs { let b = board.entry in (distances : List ℕ) → b.order.now ≡ near_others (length b.counts.now) distances b.x.0 → room ≡ length out.old → out.new ≡ pairs_after out.old (moves_within b.counts.now distances b.x.0 (tables_of pages.old b.jobs.now free.old b.maps.now) room) }
-    ensures kept { let b = board.entry in Hints b.counts.now pages.new hints.new }
+    requires maps_value { (mapped_tables_ok (length board.layout.counts.now) (length board.jobs.now) (length board.maps.now) ≡ true) × Drainable board.layout.counts.now board.layout.starts.now board.x.0 board.order.now pages.old free.old × Hints board.layout.counts.now pages.old hints.old }
+    requires by_index { (distances : List ℕ) × (board.order.now ≡ near_others (length board.layout.counts.now) distances board.x.0) }
+    ensures answer { let b = board.entry in (distances : List ℕ) → b.order.now ≡ near_others (length b.layout.counts.now) distances b.x.0 → decision_of result ≡ count_of (moves_within b.layout.counts.now distances b.x.0 (tables_of pages.old b.jobs.now free.old b.maps.now) room) }
+    ensures tables { let b = board.entry in (distances : List ℕ) → b.order.now ≡ near_others (length b.layout.counts.now) distances b.x.0 → tables_of pages.new b.jobs.now free.new b.maps.now ≡ tables_after b.x.0 (tables_of pages.old b.jobs.now free.old b.maps.now) (moves_within b.layout.counts.now distances b.x.0 (tables_of pages.old b.jobs.now free.old b.maps.now) room) }
+    ensures pairs { let b = board.entry in (distances : List ℕ) → b.order.now ≡ near_others (length b.layout.counts.now) distances b.x.0 → room ≡ length out.old → out.new ≡ pairs_after out.old (moves_within b.layout.counts.now distances b.x.0 (tables_of pages.old b.jobs.now free.old b.maps.now) room) }
+    ensures kept { let b = board.entry in Hints b.layout.counts.now pages.new hints.new }
 {
     if !goals::all_go(board, pages, free) {
         return Err(Refusal::NowhereToGo);
     }
     let n = board.x.0 as usize;
-    let moves = (board.counts[n] - free[n]) as usize;
+    let moves = (board.layout.counts[n] - free[n]) as usize;
     if room < 2 * moves {
         return Err(Refusal::OutputTooShort);
     }
@@ -56,8 +56,7 @@ fn drain_by(
 
 // A drain on tables that are in order: refusals 6, 14, 17 and 11. near(x) is listed once, over all nodes; x comes first in it.
 pub fn drain_at(
-    counts: &[u32],
-    starts: &[u32; MOST_NODES + 1],
+    layout: Layout,
     hints: &mut [u32; HINTS],
     distances: &[u8],
     pages: &mut [u8],
@@ -68,17 +67,17 @@ pub fn drain_at(
     room: usize,
     out: &mut [u32],
 ) -> Result<u64, Refusal>
-    requires { (drain_tables_ok counts.now distances.now (tables_of pages.old jobs.now free.old maps.now) ≡ true) × Starts counts.now starts.now × Hints counts.now pages.old hints.old }
-    ensures answer { decision_of result ≡ count_of (drain_moves counts.now distances.now node (tables_of pages.old jobs.now free.old maps.now) room) }
-    ensures tables { tables_of pages.new jobs.now free.new maps.now ≡ tables_after node (tables_of pages.old jobs.now free.old maps.now) (drain_moves counts.now distances.now node (tables_of pages.old jobs.now free.old maps.now) room) }
-    ensures pairs { room ≡ length out.old → out.new ≡ pairs_after out.old (drain_moves counts.now distances.now node (tables_of pages.old jobs.now free.old maps.now) room) }
-    ensures kept { Hints counts.now pages.new hints.new }
+    requires { (drain_tables_ok layout.counts.now distances.now (tables_of pages.old jobs.now free.old maps.now) ≡ true) × Hints layout.counts.now pages.old hints.old }
+    ensures answer { let l = layout.entry in decision_of result ≡ count_of (drain_moves l.counts.now distances.now node (tables_of pages.old jobs.now free.old maps.now) room) }
+    ensures tables { let l = layout.entry in tables_of pages.new jobs.now free.new maps.now ≡ tables_after node (tables_of pages.old jobs.now free.old maps.now) (drain_moves l.counts.now distances.now node (tables_of pages.old jobs.now free.old maps.now) room) }
+    ensures pairs { let l = layout.entry in room ≡ length out.old → out.new ≡ pairs_after out.old (drain_moves l.counts.now distances.now node (tables_of pages.old jobs.now free.old maps.now) room) }
+    ensures kept { Hints layout.entry.counts.now pages.new hints.new }
 {
-    let nodes = counts.len();
+    let nodes = layout.counts.len();
     if node >= nodes {
         return Err(Refusal::DoesNotFit);
     }
-    if !counting::counts_match(counts, starts, pages, free) {
+    if !counting::counts_match(layout, pages, free) {
         return Err(Refusal::WrongCount);
     }
     let x = SysNode(node as u8);
@@ -86,8 +85,7 @@ pub fn drain_at(
     let order = listed.nodes;
     let len = listed.len;
     let board = Board {
-        counts,
-        starts,
+        layout,
         x,
         order: &order[1..len],
         jobs,
@@ -129,7 +127,11 @@ pub fn drain(
     }
     let mut hints = [0u32; HINTS];
     let room = out.len();
+    let layout = Layout {
+        counts,
+        starts: &starts,
+    };
     drain_at(
-        counts, &starts, &mut hints, distances, pages, jobs, free, maps, node, room, out,
+        layout, &mut hints, distances, pages, jobs, free, maps, node, room, out,
     )
 }

@@ -15,7 +15,7 @@ use super::goals::{Board, MetJobs, NONE_MET};
 use placement::hinting::HINTS;
 use placement::placed::Placed;
 use placement::{grant, hinting};
-use rules::{MOST_NODES, Page, SysNode};
+use rules::{Page, SysNode};
 
 // Moves one page of node x to a node that has room: the new page, and the hints kept.
 fn carry(
@@ -27,24 +27,24 @@ fn carry(
     node: SysNode,
     byte: u8,
 ) -> Page
-    requires { Carries board.counts.now board.starts.now pages.old free.old board.x.0 page.0 node.0 byte × Hints board.counts.now pages.old hints.old }
-    ensures taken { let b = board.entry in result.0 ≡ (move_by b.counts.now pages.old page.0 node.0 byte).new }
-    ensures table { let b = board.entry in pages.new ≡ after_writes pages.old (move_writes (move_by b.counts.now pages.old page.0 node.0 byte)) }
+    requires { Carries board.layout.counts.now board.layout.starts.now pages.old free.old board.x.0 page.0 node.0 byte × Hints board.layout.counts.now pages.old hints.old }
+    ensures taken { let b = board.entry in result.0 ≡ (move_by b.layout.counts.now pages.old page.0 node.0 byte).new }
+    ensures table { let b = board.entry in pages.new ≡ after_writes pages.old (move_writes (move_by b.layout.counts.now pages.old page.0 node.0 byte)) }
     ensures counted { let b = board.entry in free.new ≡ after_move b.x.0 free.old node.0 }
-    ensures kept { let b = board.entry in Hints b.counts.now pages.new hints.new }
+    ensures kept { let b = board.entry in Hints b.layout.counts.now pages.new hints.new }
 {
     let job = byte - 1;
-    match grant::mark_page(board.counts, board.starts, &hints[..], pages, node, job) {
+    match grant::mark_page(board.layout, &hints[..], pages, node, job) {
         Some(new) => {
             hinting::keep(
-                board.starts,
+                board.layout,
                 hints,
                 job as usize,
                 Ok(Placed::Granted(node, new)),
             );
             pages[page.0 as usize] = 0;
             hinting::keep(
-                board.starts,
+                board.layout,
                 hints,
                 job as usize,
                 Ok(Placed::Released(board.x, page)),
@@ -78,11 +78,11 @@ fn move_at(
     out: &mut [u32],
     at: usize,
 ) -> usize
-    requires maps_value { (mapped_tables_ok (length board.counts.now) (length board.jobs.now) (length board.maps.now) ≡ true) × Drainable board.counts.now board.starts.now board.x.0 board.order.now pages.old free.old × MayCarry board.counts.now board.order.now pages.old board.jobs.now free.old board.maps.now board.x.0 page.0 × (at + 2 ≤ 18446744073709551615) }
-    requires met { Met (length board.counts.now) board.order.now board.jobs.now board.maps.now free.old met.old × Hints board.counts.now pages.old hints.old }
+    requires maps_value { (mapped_tables_ok (length board.layout.counts.now) (length board.jobs.now) (length board.maps.now) ≡ true) × Drainable board.layout.counts.now board.layout.starts.now board.x.0 board.order.now pages.old free.old × MayCarry board.layout.counts.now board.order.now pages.old board.jobs.now free.old board.maps.now board.x.0 page.0 × (at + 2 ≤ 18446744073709551615) }
+    requires met { Met (length board.layout.counts.now) board.order.now board.jobs.now board.maps.now free.old met.old × Hints board.layout.counts.now pages.old hints.old }
     ensures stays { get_or pages.old page.0 0 ≡ 0 → (result ≡ at) × (pages.new ≡ pages.old) × (free.new ≡ free.old) × (out.new ≡ out.old) }
-    ensures moves { let b = board.entry in 0 < get_or pages.old page.0 0 → (k : ℕ) → goal_by (length b.counts.now) b.order.now b.jobs.now b.maps.now free.old (get_or pages.old page.0 0 - 1) ≡ some k → (result ≡ at + 2) × (pages.new ≡ after_writes pages.old (move_writes (move_by b.counts.now pages.old page.0 k (get_or pages.old page.0 0)))) × (free.new ≡ after_move b.x.0 free.old k) × (at + 2 ≤ length out.old → out.new ≡ set (set out.old at page.0) (at + 1) (move_by b.counts.now pages.old page.0 k (get_or pages.old page.0 0)).new) }
-    ensures kept { let b = board.entry in Met (length b.counts.now) b.order.now b.jobs.now b.maps.now free.new met.new × Hints b.counts.now pages.new hints.new }
+    ensures moves { let b = board.entry in 0 < get_or pages.old page.0 0 → (k : ℕ) → goal_by (length b.layout.counts.now) b.order.now b.jobs.now b.maps.now free.old (get_or pages.old page.0 0 - 1) ≡ some k → (result ≡ at + 2) × (pages.new ≡ after_writes pages.old (move_writes (move_by b.layout.counts.now pages.old page.0 k (get_or pages.old page.0 0)))) × (free.new ≡ after_move b.x.0 free.old k) × (at + 2 ≤ length out.old → out.new ≡ set (set out.old at page.0) (at + 1) (move_by b.layout.counts.now pages.old page.0 k (get_or pages.old page.0 0)).new) }
+    ensures kept { let b = board.entry in Met (length b.layout.counts.now) b.order.now b.jobs.now b.maps.now free.new met.new × Hints b.layout.counts.now pages.new hints.new }
 {
     let byte = pages[page.0 as usize];
     if byte == 0 {
@@ -106,14 +106,14 @@ pub fn move_all(
     free: &mut [u32],
     out: &mut [u32],
 )
-    requires maps_value { (mapped_tables_ok (length board.counts.now) (length board.jobs.now) (length board.maps.now) ≡ true) × Drainable board.counts.now board.starts.now board.x.0 board.order.now pages.old free.old × Hints board.counts.now pages.old hints.old }
-    requires by_index { (distances : List ℕ) × (vs : List Move) × (board.order.now ≡ near_others (length board.counts.now) distances board.x.0) × (moves board.counts.now distances board.x.0 (tables_of pages.old board.jobs.now free.old board.maps.now) (held_pages board.counts.now pages.old board.x.0) ≡ accept vs) }
-    ensures moved { let b = board.entry in (distances : List ℕ) (vs : List Move) → b.order.now ≡ near_others (length b.counts.now) distances b.x.0 → moves b.counts.now distances b.x.0 (tables_of pages.old b.jobs.now free.old b.maps.now) (held_pages b.counts.now pages.old b.x.0) ≡ accept vs → (tables_of pages.new b.jobs.now free.new b.maps.now ≡ (applied (tables_of pages.old b.jobs.now free.old b.maps.now) (accept (draining b.x.0 (tables_of pages.old b.jobs.now free.old b.maps.now) vs))).tables) × (2 * length vs ≤ length out.old → out.new ≡ pairs vs ++ drop (2 * length vs) out.old) }
-    ensures kept { let b = board.entry in Hints b.counts.now pages.new hints.new }
+    requires maps_value { (mapped_tables_ok (length board.layout.counts.now) (length board.jobs.now) (length board.maps.now) ≡ true) × Drainable board.layout.counts.now board.layout.starts.now board.x.0 board.order.now pages.old free.old × Hints board.layout.counts.now pages.old hints.old }
+    requires by_index { (distances : List ℕ) × (vs : List Move) × (board.order.now ≡ near_others (length board.layout.counts.now) distances board.x.0) × (moves board.layout.counts.now distances board.x.0 (tables_of pages.old board.jobs.now free.old board.maps.now) (held_pages board.layout.counts.now pages.old board.x.0) ≡ accept vs) }
+    ensures moved { let b = board.entry in (distances : List ℕ) (vs : List Move) → b.order.now ≡ near_others (length b.layout.counts.now) distances b.x.0 → moves b.layout.counts.now distances b.x.0 (tables_of pages.old b.jobs.now free.old b.maps.now) (held_pages b.layout.counts.now pages.old b.x.0) ≡ accept vs → (tables_of pages.new b.jobs.now free.new b.maps.now ≡ (applied (tables_of pages.old b.jobs.now free.old b.maps.now) (accept (draining b.x.0 (tables_of pages.old b.jobs.now free.old b.maps.now) vs))).tables) × (2 * length vs ≤ length out.old → out.new ≡ pairs vs ++ drop (2 * length vs) out.old) }
+    ensures kept { let b = board.entry in Hints b.layout.counts.now pages.new hints.new }
 {
     let mut met = NONE_MET;
-    let first = board.starts[board.x.0 as usize];
-    let end = board.starts[board.x.0 as usize + 1];
+    let first = board.layout.starts[board.x.0 as usize];
+    let end = board.layout.starts[board.x.0 as usize + 1];
     let mut at: usize = 0;
     for page in first..end {
         at = move_at(board, hints, pages, free, &mut met, Page(page), out, at);

@@ -4,7 +4,7 @@ ghost use Rattle.std.specs.Prelude.{true, ◌≡◌, ◌≤◌, length};
 ghost use Rattle.rules.specs.Machine.{Machine};
 ghost use Rattle.rules.specs.Calls.{Tables, tables_of, request_tables_ok};
 ghost use Rattle.rules.specs.Journal.{machine_in};
-ghost use Rattle.machine.specs.Tables.{machine_of, Starts};
+ghost use Rattle.machine.specs.Tables.{machine_of};
 ghost use Rattle.placement.specs.Hints.{Hints};
 ghost use Rattle.journal.specs.Opening.{Opened};
 ghost use Rattle.journal.specs.Parts.{answer_size, run_of, is_ready, one_record, put_into, on_part};
@@ -16,8 +16,9 @@ use super::reading::byte_at;
 use super::record::{places_in, read_record, whole};
 use book;
 use machine;
+use machine::layout::Layout;
 use placement::hinting::HINTS;
-use rules::{MOST_NODES, Refusal};
+use rules::Refusal;
 
 // What a part of a run comes to: the bytes of the records that it did and those of their answers, and whether the run goes on. All three
 // hold at damage too, so no `Option` stands for the last one.
@@ -30,8 +31,7 @@ pub struct Part {
 
 // The record that the input starts with: "A bad mark, kind, unused byte or short record .. ends" the run.
 fn run_record(
-    counts: &[u32],
-    starts: &[u32; MOST_NODES + 1],
+    layout: Layout,
     hints: &mut [u32; HINTS],
     cpus: &[u8],
     distances: &[u8],
@@ -42,16 +42,15 @@ fn run_record(
     input: &[u8],
     output: &mut [u8],
 ) -> Part
-    requires { (request_tables_ok (machine_of counts.now cpus.now distances.now) (tables_of pages.old jobs.old free.old maps.old) ≡ true) × Starts counts.now starts.now × (answer_size ≤ length output.old) × Hints counts.now pages.old hints.old }
-    ensures did { passed result (tables_of pages.new jobs.new free.new maps.new) output.new ≡ put_into output.old (one_record (machine_of counts.now cpus.now distances.now) (tables_of pages.old jobs.old free.old maps.old) input.now) }
-    ensures kept { Hints counts.now pages.new hints.new }
+    requires { (request_tables_ok (machine_of layout.counts.now cpus.now distances.now) (tables_of pages.old jobs.old free.old maps.old) ≡ true) × (answer_size ≤ length output.old) × Hints layout.counts.now pages.old hints.old }
+    ensures did { let l = layout.entry in passed result (tables_of pages.new jobs.new free.new maps.new) output.new ≡ put_into output.old (one_record (machine_of l.counts.now cpus.now distances.now) (tables_of pages.old jobs.old free.old maps.old) input.now) }
+    ensures kept { Hints layout.entry.counts.now pages.new hints.new }
 {
     match read_record(input) {
         Some(entry) => {
             let places = places_in(input);
             let answer = book::perform(
-                counts,
-                starts,
+                layout,
                 hints,
                 cpus,
                 distances,
@@ -90,8 +89,7 @@ fn ready(input: &[u8], ended: bool) -> bool
 
 // The records at the start of the input, as far as the output has room for their answers.
 fn run_records(
-    counts: &[u32],
-    starts: &[u32; MOST_NODES + 1],
+    layout: Layout,
     hints: &mut [u32; HINTS],
     cpus: &[u8],
     distances: &[u8],
@@ -103,16 +101,15 @@ fn run_records(
     ended: bool,
     output: &mut [u8],
 ) -> Part
-    requires { (request_tables_ok (machine_of counts.now cpus.now distances.now) (tables_of pages.old jobs.old free.old maps.old) ≡ true) × Starts counts.now starts.now × Hints counts.now pages.old hints.old }
-    ensures { passed result (tables_of pages.new jobs.new free.new maps.new) output.new ≡ on_part (machine_of counts.now cpus.now distances.now) (tables_of pages.old jobs.old free.old maps.old) input.now ended output.old }
+    requires { (request_tables_ok (machine_of layout.counts.now cpus.now distances.now) (tables_of pages.old jobs.old free.old maps.old) ≡ true) × Hints layout.counts.now pages.old hints.old }
+    ensures { let l = layout.entry in passed result (tables_of pages.new jobs.new free.new maps.new) output.new ≡ on_part (machine_of l.counts.now cpus.now distances.now) (tables_of pages.old jobs.old free.old maps.old) input.now ended output.old }
 {
     let mut at = 0;
     let mut written = 0;
     // A walk by the records' sizes, which no range or slice counts.
     while ready(&input[at..], ended) & (ANSWER_SIZE <= output.len() - written) {
         let one = run_record(
-            counts,
-            starts,
+            layout,
             hints,
             cpus,
             distances,
@@ -161,9 +158,13 @@ pub fn run_part(
     let cpus = cpu_bytes(opening);
     let distances = distance_bytes(opening);
     let starts = machine::starts_of(counts);
+    let layout = Layout {
+        counts,
+        starts: &starts,
+    };
     let mut hints = [0u32; HINTS];
     run_records(
-        counts, &starts, &mut hints, cpus, distances, pages, jobs, free, maps, input, ended, output,
+        layout, &mut hints, cpus, distances, pages, jobs, free, maps, input, ended, output,
     )
 }
 

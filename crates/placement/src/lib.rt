@@ -10,7 +10,7 @@ ghost use Rattle.rules.specs.Records.{most_jobs, job_count, record_at};
 ghost use Rattle.rules.specs.SearchOrder.{plan, order, chosen};
 ghost use Rattle.rules.specs.Calls.{Tables, tables_of, with_pages, outcome, applied, map_of, is_job, free_ok, fresh_tables_ok, request_tables_ok, release_tables_ok, mapped_tables_ok, admitted, limit_of, serve, on_request, on_release, on_fresh};
 ghost use Rattle.rules.specs.Answers.{answer_of};
-ghost use Rattle.machine.specs.Tables.{machine_of, Starts};
+ghost use Rattle.machine.specs.Tables.{machine_of};
 ghost use Rattle.records.specs.Jobs.{record_of};
 ghost use Rattle.placement.specs.Admissions.{admission_of, LimitIs, admit_tests};
 ghost use Rattle.placement.specs.Searches.{Searchable};
@@ -20,12 +20,13 @@ ghost use Rattle.placement.specs.Placed.{placed_as, InNode, release_tests};
 
 use machine;
 use machine::Located;
+use machine::layout::Layout;
 use maps::{judging, turning};
 use nodemask::Mask;
 use placed::Placed;
 use records::record::Record;
 use records::table;
-use rules::{Answer, Effect, MOST_NODES, Page, Refusal, SysNode};
+use rules::{Answer, Effect, Page, Refusal, SysNode};
 
 pub mod grant;
 pub mod hinting;
@@ -118,8 +119,7 @@ pub fn admit(
 
 // The first node in the order that is counted above 0 grants: a request that has passed its tests, from a CPU on node x.
 fn serve(
-    counts: &[u32],
-    starts: &[u32; MOST_NODES + 1],
+    layout: Layout,
     hints: &[u32],
     distances: &[u8],
     pages: &mut [u8],
@@ -130,16 +130,15 @@ fn serve(
     limit: Mask,
     x: SysNode,
 ) -> Result<Placed, Refusal>
-    requires { Ready counts.now starts.now pages.old job × (is_job jobs.old job ≡ true) × (length free.old ≡ length counts.now) × Searchable free.old distances.now limit.0 (record_of loaded) x.0 × Hints counts.now pages.old hints.now }
-    ensures did { (maps : List ℕ) → outcome (placed_as (map_of (tables_of pages.old jobs.old free.old maps) job) result) (tables_of pages.new jobs.new free.new maps) ≡ applied (tables_of pages.old jobs.old free.old maps) (serve counts.now (tables_of pages.old jobs.old free.old maps) job (chosen free.old (order (length counts.now) distances.now limit.0 (plan limit.0 (record_of loaded) x.0)))) }
-    ensures found { InNode counts.now result }
+    requires { Ready layout.counts.now layout.starts.now pages.old job × (is_job jobs.old job ≡ true) × (length free.old ≡ length layout.counts.now) × Searchable free.old distances.now limit.0 (record_of loaded) x.0 × Hints layout.counts.now pages.old hints.now }
+    ensures did { let l = layout.entry in (maps : List ℕ) → outcome (placed_as (map_of (tables_of pages.old jobs.old free.old maps) job) result) (tables_of pages.new jobs.new free.new maps) ≡ applied (tables_of pages.old jobs.old free.old maps) (serve l.counts.now (tables_of pages.old jobs.old free.old maps) job (chosen free.old (order (length l.counts.now) distances.now limit.0 (plan limit.0 (record_of loaded) x.0)))) }
+    ensures found { InNode layout.entry.counts.now result }
 {
     let decoded = loaded.job();
     let found = search::search(free, distances, limit, decoded, x);
     let chosen = found.ok_or(Refusal::NoRoom)?;
     grant::grant_node(
-        counts,
-        starts,
+        layout,
         hints,
         pages,
         jobs,
@@ -152,8 +151,7 @@ fn serve(
 
 // A request on tables that are in order. A page is searched for from its node's hints on; there may be none.
 pub fn request_at(
-    counts: &[u32],
-    starts: &[u32; MOST_NODES + 1],
+    layout: Layout,
     hints: &[u32],
     cpus: &[u8],
     distances: &[u8],
@@ -164,15 +162,24 @@ pub fn request_at(
     job: usize,
     cpu: usize,
 ) -> Result<Placed, Refusal>
-    requires { (request_tables_ok (machine_of counts.now cpus.now distances.now) (tables_of pages.old jobs.old free.old maps.now) ≡ true) × Starts counts.now starts.now × Hints counts.now pages.old hints.now }
-    ensures did { outcome (placed_as (map_of (tables_of pages.old jobs.old free.old maps.now) job) result) (tables_of pages.new jobs.new free.new maps.now) ≡ on_request (machine_of counts.now cpus.now distances.now) (tables_of pages.old jobs.old free.old maps.now) job cpu }
-    ensures found { InNode counts.now result }
+    requires { (request_tables_ok (machine_of layout.counts.now cpus.now distances.now) (tables_of pages.old jobs.old free.old maps.now) ≡ true) × Hints layout.counts.now pages.old hints.now }
+    ensures did { let l = layout.entry in outcome (placed_as (map_of (tables_of pages.old jobs.old free.old maps.now) job) result) (tables_of pages.new jobs.new free.new maps.now) ≡ on_request (machine_of l.counts.now cpus.now distances.now) (tables_of pages.old jobs.old free.old maps.now) job cpu }
+    ensures found { InNode layout.entry.counts.now result }
 {
-    let admitted = admit(counts, cpus, distances, pages, jobs, free, maps, job, cpu)?;
+    let admitted = admit(
+        layout.counts,
+        cpus,
+        distances,
+        pages,
+        jobs,
+        free,
+        maps,
+        job,
+        cpu,
+    )?;
     let x = SysNode(cpus[cpu]);
     serve(
-        counts,
-        starts,
+        layout,
         hints,
         distances,
         pages,
@@ -214,9 +221,12 @@ pub fn request(
     ) {
         return Err(Refusal::BadTables);
     }
-    let placed = request_at(
+    let layout = Layout {
         counts,
-        &starts,
+        starts: &starts,
+    };
+    let placed = request_at(
+        layout,
         &counts[..0],
         cpus,
         distances,
@@ -288,8 +298,7 @@ fn release_located(
 
 // A release on tables that are in order.
 pub fn release_at(
-    counts: &[u32],
-    starts: &[u32; MOST_NODES + 1],
+    layout: Layout,
     pages: &mut [u8],
     jobs: &[u64],
     free: &mut [u32],
@@ -297,17 +306,17 @@ pub fn release_at(
     job: usize,
     page: usize,
 ) -> Result<Placed, Refusal>
-    requires { (release_tables_ok counts.now (tables_of pages.old jobs.now free.old maps.now) ≡ true) × Starts counts.now starts.now }
-    ensures did { outcome (placed_as (map_of (tables_of pages.old jobs.now free.old maps.now) job) result) (tables_of pages.new jobs.now free.new maps.now) ≡ on_release counts.now (tables_of pages.old jobs.now free.old maps.now) job page }
-    ensures found { InNode counts.now result }
+    requires { release_tables_ok layout.counts.now (tables_of pages.old jobs.now free.old maps.now) ≡ true }
+    ensures did { let l = layout.entry in outcome (placed_as (map_of (tables_of pages.old jobs.now free.old maps.now) job) result) (tables_of pages.new jobs.now free.new maps.now) ≡ on_release l.counts.now (tables_of pages.old jobs.now free.old maps.now) job page }
+    ensures found { InNode layout.entry.counts.now result }
 {
-    let total = machine::pages_end(counts, starts);
+    let total = machine::pages_end(layout.counts, layout.starts);
     let mut node = SysNode(0);
     if page < total {
-        node = machine::node_of_page(counts, starts, Page(page as u32));
+        node = machine::node_of_page(layout.counts, layout.starts, Page(page as u32));
     }
     let at = Located { node, total };
-    release_located(counts, pages, jobs, free, maps, job, page, at)
+    release_located(layout.counts, pages, jobs, free, maps, job, page, at)
 }
 
 // Release: a page that the job holds becomes free. No starts are made: one pass over the counts finds the page's node and sums them.
@@ -352,18 +361,13 @@ pub fn copy_counts(counts: &[u32], free: &mut [u32])
 }
 
 // The fresh table on tables that are in order.
-pub fn fresh_at(
-    counts: &[u32],
-    starts: &[u32; MOST_NODES + 1],
-    pages: &mut [u8],
-    free: &mut [u32],
-) -> Answer
-    requires { (fresh_tables_ok counts.now (length pages.old) (length free.old) ≡ true) × Starts counts.now starts.now }
-    ensures { (t : Tables) → outcome (answer_of result) (with_pages t pages.new free.new) ≡ on_fresh counts.now (with_pages t pages.old free.old) }
+pub fn fresh_at(layout: Layout, pages: &mut [u8], free: &mut [u32]) -> Answer
+    requires { fresh_tables_ok layout.counts.now (length pages.old) (length free.old) ≡ true }
+    ensures { let l = layout.entry in (t : Tables) → outcome (answer_of result) (with_pages t pages.new free.new) ≡ on_fresh l.counts.now (with_pages t pages.old free.old) }
 {
-    let total = machine::pages_end(counts, starts);
+    let total = machine::pages_end(layout.counts, layout.starts);
     pages[..total].fill(0);
-    copy_counts(counts, free);
+    copy_counts(layout.counts, free);
     Ok(Effect::Done)
 }
 
@@ -379,5 +383,9 @@ pub fn fresh(counts: &[u32], pages: &mut [u8], free: &mut [u32]) -> Answer
     if !pages_ok(counts.len(), total, pages.len(), free.len()) {
         return Err(Refusal::BadTables);
     }
-    fresh_at(counts, &starts, pages, free)
+    let layout = Layout {
+        counts,
+        starts: &starts,
+    };
+    fresh_at(layout, pages, free)
 }

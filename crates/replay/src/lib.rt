@@ -6,7 +6,7 @@ ghost use Rattle.std.specs.Prelude.{true, ◌≡◌, ℕ, ◌≤◌, length, rep
 ghost use Rattle.rules.specs.Answers.{decision_of};
 ghost use Rattle.rules.specs.Calls.{tables_of, request_tables_ok};
 ghost use Rattle.rules.specs.Decisions.{accept};
-ghost use Rattle.machine.specs.Tables.{machine_of, Starts};
+ghost use Rattle.machine.specs.Tables.{machine_of};
 ghost use Rattle.fairness.specs.Demand3.{Demand3};
 ghost use Rattle.replay.specs.Encoding.{calls_in, calls_ok, call_count};
 ghost use Rattle.replay.specs.Replay.{run, on_replay, Belongs};
@@ -14,16 +14,16 @@ ghost use Rattle.replay.specs.Replay.{run, on_replay, Belongs};
 use book;
 use encoding::CALL_WORDS;
 use machine;
+use machine::layout::Layout;
 use placement;
 use placement::hinting::HINTS;
-use rules::{MAP_BYTES, MOST_NODES, Refusal};
+use rules::{MAP_BYTES, Refusal};
 
 mod encoding;
 
 // Runs the calls of a list that has passed its tests, one after the other, and writes their answers: how many.
 fn run_calls(
-    counts: &[u32],
-    starts: &[u32; MOST_NODES + 1],
+    layout: Layout,
     cpus: &[u8],
     distances: &[u8],
     pages: &mut [u8],
@@ -33,8 +33,8 @@ fn run_calls(
     calls: &[u64],
     answers: &mut [u64],
 ) -> u64
-    requires { (request_tables_ok (machine_of counts.now cpus.now distances.now) (tables_of pages.old jobs.old free.old maps.old) ≡ true) × Starts counts.now starts.now × (calls_ok calls.now ≡ true) × (call_count calls.now ≤ length answers.old) }
-    ensures { run (accept result) (tables_of pages.new jobs.new free.new maps.new) answers.new ≡ on_replay (machine_of counts.now cpus.now distances.now) (tables_of pages.old jobs.old free.old maps.old) calls.now answers.old }
+    requires { (request_tables_ok (machine_of layout.counts.now cpus.now distances.now) (tables_of pages.old jobs.old free.old maps.old) ≡ true) × (calls_ok calls.now ≡ true) × (call_count calls.now ≤ length answers.old) }
+    ensures { let l = layout.entry in run (accept result) (tables_of pages.new jobs.new free.new maps.new) answers.new ≡ on_replay (machine_of l.counts.now cpus.now distances.now) (tables_of pages.old jobs.old free.old maps.old) calls.now answers.old }
 {
     let n = calls.len() / CALL_WORDS;
     let mut hints = [0u32; HINTS];
@@ -47,8 +47,7 @@ fn run_calls(
             continue;
         };
         let answer = book::perform(
-            counts,
-            starts,
+            layout,
             &mut hints,
             cpus,
             distances,
@@ -102,7 +101,11 @@ pub fn replay(
     if answers.len() < calls.len() / CALL_WORDS {
         return Err(Refusal::OutputTooShort);
     }
+    let layout = Layout {
+        counts,
+        starts: &starts,
+    };
     Ok(run_calls(
-        counts, &starts, cpus, distances, pages, jobs, free, maps, calls, answers,
+        layout, cpus, distances, pages, jobs, free, maps, calls, answers,
     ))
 }

@@ -47,7 +47,6 @@ pages_end-total-requires c = let i = counts_in_order _ (sym c.if-not-page_counts
 pub drain_at-requires : goal.drain_at-requires
 drain_at-requires c = (
   sym (tested (goal.at.drain_at-requires c).After-lent_ok) ∙ c.if-not-lent_ok.false,
-  c.starts_of-starts.ensures,
   zero_hints c.args.counts.now c.args.pages.now 320,
 )
 

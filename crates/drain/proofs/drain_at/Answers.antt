@@ -16,48 +16,50 @@ use Rattle.drain.proofs.drain_at.Goals.{After-near-listed}
 
 -- near(x) is listed
 listed : (c : After-near-listed) → Listed c.near-listed.result.nodes c.near-listed.result.len
-    (near (length c.args.counts.now) c.args.distances.now (all_nodes (length c.args.counts.now)) c.args.node)
+    (near (length c.args.layout.counts.now) c.args.distances.now (all_nodes (length c.args.layout.counts.now)) c.args.node)
 listed c = subst
-    (λ (set : ℕ). Listed c.near-listed.result.nodes c.near-listed.result.len (near (length c.args.counts.now) c.args.distances.now set c.args.node))
+    (λ (set : ℕ). Listed c.near-listed.result.nodes c.near-listed.result.len (near (length c.args.layout.counts.now) c.args.distances.now set c.args.node))
     c.all_nodes.ensures c.near-listed.ensures.order
 
 -- and so are the other nodes
 order : (c : After-near-listed) → take (c.near-listed.result.len - 1) (drop 1 c.near-listed.result.nodes)
-    ≡ near_others (length c.args.counts.now) c.args.distances.now c.args.node
-order c = others_listed (length c.args.counts.now) c.args.distances.now c.args.node c.if-node-nodes.false (listed c)
+    ≡ near_others (length c.args.layout.counts.now) c.args.distances.now c.args.node
+order c = others_listed (length c.args.layout.counts.now) c.args.distances.now c.args.node c.if-node-nodes.false (listed c)
 
 -- no such node
 pub returns-then-node-nodes : goal.returns-then-node-nodes
 returns-then-node-nodes c = let tables : Tables = tables_of c.args.pages.now c.args.jobs.now c.args.free.now c.args.maps.now in
-    let e = moves_6 c.args.counts.now c.args.distances.now tables c.requires.0 c.args.node c.args.room c.if-node-nodes.true in
+    let e = moves_6 c.args.layout.counts.now c.args.distances.now tables c.requires.0 c.args.node c.args.room c.if-node-nodes.true in
     record {
       answer = rw e;
       tables = rw e;
       pairs = λ l. rw e;
-      kept = c.requires.2;
+      kept = c.requires.1;
     }
 
 pub counts_match-requires : goal.counts_match-requires
-counts_match-requires c = let tables : Tables = tables_of c.args.pages.now c.args.jobs.now c.args.free.now c.args.maps.now in
-    (paged_are c.args.counts.now c.args.distances.now tables c.requires.0 c.requires.1, counts_are c.args.counts.now c.args.distances.now tables c.requires.0)
+counts_match-requires c = let tables : Tables = tables_of c.args.pages.now c.args.jobs.now c.args.free.now c.args.maps.now in (
+  paged_are c.args.layout.counts.now c.args.distances.now tables c.requires.0 c.args.layout.begin,
+  counts_are c.args.layout.counts.now c.args.distances.now tables c.requires.0,
+)
 
 -- a count is wrong
 pub returns-then-not-counts_match : goal.returns-then-not-counts_match
 unfolding counts_match
 returns-then-not-counts_match c = let tables : Tables = tables_of c.args.pages.now c.args.jobs.now c.args.free.now c.args.maps.now in
-    let e = moves_14 c.args.counts.now c.args.distances.now tables c.requires.0 c.args.node c.args.room c.if-node-nodes.false
+    let e = moves_14 c.args.layout.counts.now c.args.distances.now tables c.requires.0 c.args.node c.args.room c.if-node-nodes.false
     (sym c.if-not-counts_match.ensures) in
     record {
       answer = rw e;
       tables = rw e;
       pairs = λ l. rw e;
-      kept = c.requires.2;
+      kept = c.requires.1;
     }
 
 pub near-listed-requires : goal.near-listed-requires
 near-listed-requires c = let tables : Tables = tables_of c.args.pages.now c.args.jobs.now c.args.free.now c.args.maps.now in (
-  (paged_are c.args.counts.now c.args.distances.now tables c.requires.0 c.requires.1).few,
-  distances_long c.args.counts.now c.args.distances.now tables c.requires.0,
+  (paged_are c.args.layout.counts.now c.args.distances.now tables c.requires.0 c.args.layout.begin).few,
+  distances_long c.args.layout.counts.now c.args.distances.now tables c.requires.0,
   c.if-node-nodes.false,
 )
 
@@ -67,10 +69,10 @@ drain_by-requires c = let tables : Tables = tables_of c.args.pages.now c.args.jo
     let others = order (goal.at.drain_by-requires c).After-near-listed in
     record {
       maps_value = (
-        mapped_are c.args.counts.now c.args.distances.now tables c.requires.0,
-        drainable_lem c.args.counts.now c.args.distances.now tables c.requires.0 c.requires.1 c.if-node-nodes.false
+        mapped_are c.args.layout.counts.now c.args.distances.now tables c.requires.0,
+        drainable_lem c.args.layout.counts.now c.args.distances.now tables c.requires.0 c.args.layout.begin c.if-node-nodes.false
             (sym c.if-not-counts_match.ensures) others,
-        c.requires.2,
+        c.requires.1,
       );
       by_index = (c.args.distances.now, others);
     }
@@ -78,7 +80,7 @@ drain_by-requires c = let tables : Tables = tables_of c.args.pages.now c.args.jo
 pub returns : goal.returns
 unfolding counts_match
 returns c = let tables : Tables = tables_of c.args.pages.now c.args.jobs.now c.args.free.now c.args.maps.now in
-    let e = moves_on c.args.counts.now c.args.distances.now tables c.requires.0 c.args.node c.args.room c.if-node-nodes.false
+    let e = moves_on c.args.layout.counts.now c.args.distances.now tables c.requires.0 c.args.node c.args.room c.if-node-nodes.false
     (sym c.if-not-counts_match.ensures) in
     let others = order (goal.at.returns c).After-near-listed in
     let w = c.drain_by.ensures in
@@ -91,16 +93,16 @@ returns c = let tables : Tables = tables_of c.args.pages.now c.args.jobs.now c.a
 
 pub overflow_cast-x : goal.overflow_cast-x
 overflow_cast-x c = let tables : Tables = tables_of c.args.pages.now c.args.jobs.now c.args.free.now c.args.maps.now in
-    omega (arith, c.if-node-nodes.false, (paged_are c.args.counts.now c.args.distances.now tables c.requires.0 c.requires.1).few)
+    omega (arith, c.if-node-nodes.false, (paged_are c.args.layout.counts.now c.args.distances.now tables c.requires.0 c.args.layout.begin).few)
 
 pub all_nodes-requires : goal.all_nodes-requires
 all_nodes-requires c = let tables : Tables = tables_of c.args.pages.now c.args.jobs.now c.args.free.now c.args.maps.now in
-    (paged_are c.args.counts.now c.args.distances.now tables c.requires.0 c.requires.1).few
+    (paged_are c.args.layout.counts.now c.args.distances.now tables c.requires.0 c.args.layout.begin).few
 
 pub slice_bounds-board-count : goal.slice_bounds-board-count
-slice_bounds-board-count c = some_listed (length c.args.counts.now) c.args.distances.now c.args.node c.if-node-nodes.false
+slice_bounds-board-count c = some_listed (length c.args.layout.counts.now) c.args.distances.now c.args.node c.if-node-nodes.false
     (listed (goal.at.slice_bounds-board-count c).After-near-listed)
 
 pub slice_bounds-board-start : goal.slice_bounds-board-start
-slice_bounds-board-start c = some_listed (length c.args.counts.now) c.args.distances.now c.args.node c.if-node-nodes.false
+slice_bounds-board-start c = some_listed (length c.args.layout.counts.now) c.args.distances.now c.args.node c.if-node-nodes.false
     (listed (goal.at.slice_bounds-board-start c).After-near-listed)

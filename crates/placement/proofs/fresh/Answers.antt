@@ -39,4 +39,4 @@ fresh_at-requires c = let counts-ok : (nodes_ok (length c.args.counts.now) && pa
     c.if-not-page_counts_ok.false in
     let tested : c.pages_ok.result ≡ fresh_tables_ok c.args.counts.now (length c.args.pages.now) (length c.args.free.now) = c.pages_ok.ensures ∙
     fresh_tested _ _ _ c.pages_end-total.ensures (counts-ok) in
-    (sym tested ∙ c.if-not-pages_ok.false, c.starts_of-starts.ensures)
+    sym tested ∙ c.if-not-pages_ok.false

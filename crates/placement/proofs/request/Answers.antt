@@ -44,8 +44,7 @@ request_at-placed-requires c = let machine : Machine = machine_of c.args.counts.
     let tested : c.lent_ok.result ≡ request_tables_ok (machine) (tables) = c.lent_ok.ensures ∙ request_tested (machine) (tables)
     c.pages_end-total.ensures (machine-ok) in
     let in-order-all : request_tables_ok (machine) (tables) ≡ true = sym (tested) ∙ c.if-not-lent_ok.false in
-    let made = c.starts_of-starts.ensures in
-    (in-order-all, made, no_hints _ _)
+    (in-order-all, no_hints _ _)
 
 pub tell-requires : goal.tell-requires
 tell-requires c = let machine : Machine = machine_of c.args.counts.now c.args.cpus.now c.args.distances.now in

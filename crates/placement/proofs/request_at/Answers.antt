@@ -14,16 +14,16 @@ use Rattle.placement.proofs.request_at.Goals as goal
 
 pub serve-requires : goal.serve-requires
 unfolding record_of
-serve-requires c = let machine : Machine = machine_of c.args.counts.now c.args.cpus.now c.args.distances.now in
+serve-requires c = let machine : Machine = machine_of c.args.layout.counts.now c.args.cpus.now c.args.distances.now in
     let tables : Tables = tables_of c.args.pages.now c.args.jobs.now c.args.free.now c.args.maps.now in
     let passed : accept (record_of c.in_ok-admitted.admitted.record) ≡ admitted (machine) (tables) c.args.job c.args.cpu = c.in_ok-admitted.ensures.tested in
     let limited : c.in_ok-admitted.admitted.limit.0 ≡ limit_of (tables) c.args.job = c.in_ok-admitted.ensures.limit in
-    searchable machine tables c.args.job c.args.cpu limited (let_through _ _ _ _ passed) c.requires.1 c.requires.2
+    searchable machine tables c.args.job c.args.cpu limited (let_through _ _ _ _ passed) c.args.layout.begin c.requires.1
 
 -- the search serves
 pub returns : goal.returns
 unfolding record_of
-returns c = let machine : Machine = machine_of c.args.counts.now c.args.cpus.now c.args.distances.now in
+returns c = let machine : Machine = machine_of c.args.layout.counts.now c.args.cpus.now c.args.distances.now in
     let tables : Tables = tables_of c.args.pages.now c.args.jobs.now c.args.free.now c.args.maps.now in
     let passed : accept (record_of c.in_ok-admitted.admitted.record) ≡ admitted (machine) (tables) c.args.job c.args.cpu = c.in_ok-admitted.ensures.tested in
     let limited : c.in_ok-admitted.admitted.limit.0 ≡ limit_of (tables) c.args.job = c.in_ok-admitted.ensures.limit in
@@ -34,7 +34,7 @@ returns c = let machine : Machine = machine_of c.args.counts.now c.args.cpus.now
 
 -- a test refuses
 pub returns-in_err-admitted : goal.returns-in_err-admitted
-returns-in_err-admitted c = let machine : Machine = machine_of c.args.counts.now c.args.cpus.now c.args.distances.now in
+returns-in_err-admitted c = let machine : Machine = machine_of c.args.layout.counts.now c.args.cpus.now c.args.distances.now in
     let tables : Tables = tables_of c.args.pages.now c.args.jobs.now c.args.free.now c.args.maps.now in
     let exit = err_from_is_err_and c.from_residual.result c.from_residual.ensures.1 in
     rw (exit.1, exit.2) (record {
@@ -43,7 +43,7 @@ returns-in_err-admitted c = let machine : Machine = machine_of c.args.counts.now
     })
 
 pub bounds-cpus-cpu : goal.bounds-cpus-cpu
-bounds-cpus-cpu c = let machine : Machine = machine_of c.args.counts.now c.args.cpus.now c.args.distances.now in
+bounds-cpus-cpu c = let machine : Machine = machine_of c.args.layout.counts.now c.args.cpus.now c.args.distances.now in
     let tables : Tables = tables_of c.args.pages.now c.args.jobs.now c.args.free.now c.args.maps.now in
     let passed : accept (record_of c.in_ok-admitted.admitted.record) ≡ admitted (machine) (tables) c.args.job c.args.cpu = c.in_ok-admitted.ensures.tested in
     let passes : Passes (machine) (tables) c.args.job c.args.cpu = (let_through _ _ _ _ (passed)).0 in

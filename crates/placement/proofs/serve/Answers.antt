@@ -15,7 +15,7 @@ use Rattle.placement.proofs.Grants.{chose}
 use Rattle.placement.proofs.serve.Goals as goal
 
 pub grant_node-requires : goal.grant_node-requires
-grant_node-requires c = let tries : List Try = order (length c.args.counts.now) c.args.distances.now c.args.limit.0
+grant_node-requires c = let tries : List Try = order (length c.args.layout.counts.now) c.args.distances.now c.args.limit.0
     (plan c.args.limit.0 (record_of c.args.loaded) c.args.x.0) in
     let decoded : job_of c.job-decoded.result ≡ record_of c.args.loaded = c.job-decoded.ensures _ c.requires.3.plannable.formed in
     let found : chosen_by c.search-found.result ≡ chosen c.args.free.now (tries) = rw (sym c.requires.2, ← decoded) c.search-found.ensures in
@@ -25,10 +25,10 @@ grant_node-requires c = let tries : List Try = order (length c.args.counts.now) 
 pub returns-in_err-chosen : goal.returns-in_err-chosen
 unfolding applied serve
 returns-in_err-chosen c = let decoded : job_of c.job-decoded.result ≡ record_of c.args.loaded = c.job-decoded.ensures _ c.requires.3.plannable.formed in
-    let tries : List Try = order (length c.args.counts.now) c.args.distances.now c.args.limit.0 (plan c.args.limit.0 (record_of c.args.loaded) c.args.x.0) in
+    let tries : List Try = order (length c.args.layout.counts.now) c.args.distances.now c.args.limit.0 (plan c.args.limit.0 (record_of c.args.loaded) c.args.x.0) in
     let found : chosen_by c.search-found.result ≡ chosen c.args.free.now (tries) = rw (sym c.requires.2, ← decoded) c.search-found.ensures in
     let tables : List ℕ → Tables = λ maps. tables_of c.args.pages.now c.args.jobs.now c.args.free.now maps in
-    let by : List ℕ → Option Try → Outcome = λ maps o. applied (tables maps) (serve c.args.counts.now (tables maps) c.args.job o) in
+    let by : List ℕ → Option Try → Outcome = λ maps o. applied (tables maps) (serve c.args.layout.counts.now (tables maps) c.args.job o) in
     let none = c.in_err-chosen.ensures.ok_part in
     let told = rw none at c.in_err-chosen.ensures.value in
     let why : c.in_err-chosen.field-0.0 ≡ NoRoom = cc in

@@ -11,19 +11,19 @@ pub returns : goal.returns
 returns c = c.has_free.ensures ∙ room_is c.requires.0 c.args.node.0 c.requires.1
 
 pub slice_bounds-has_free-count : goal.slice_bounds-has_free-count
-slice_bounds-has_free-count c = let part : (get_or c.args.starts.now c.args.node.0 0 ≤ get_or c.args.starts.now (c.args.node.0 + 1) 0) ×
-    (get_or c.args.starts.now (c.args.node.0 + 1) 0 ≤ length c.args.pages.now) × (get_or c.args.starts.now (c.args.node.0 + 1) 0 ≤ 1048576) = inside
+slice_bounds-has_free-count c = let part : (get_or c.args.layout.starts.now c.args.node.0 0 ≤ get_or c.args.layout.starts.now (c.args.node.0 + 1) 0) ×
+    (get_or c.args.layout.starts.now (c.args.node.0 + 1) 0 ≤ length c.args.pages.now) × (get_or c.args.layout.starts.now (c.args.node.0 + 1) 0 ≤ 1048576) = inside
     c.requires.0 c.args.node.0 c.requires.1 in
     part.0
 
 pub slice_bounds-has_free-start : goal.slice_bounds-has_free-start
-slice_bounds-has_free-start c = let part : (get_or c.args.starts.now c.args.node.0 0 ≤ get_or c.args.starts.now (c.args.node.0 + 1) 0) ×
-    (get_or c.args.starts.now (c.args.node.0 + 1) 0 ≤ length c.args.pages.now) × (get_or c.args.starts.now (c.args.node.0 + 1) 0 ≤ 1048576) = inside
+slice_bounds-has_free-start c = let part : (get_or c.args.layout.starts.now c.args.node.0 0 ≤ get_or c.args.layout.starts.now (c.args.node.0 + 1) 0) ×
+    (get_or c.args.layout.starts.now (c.args.node.0 + 1) 0 ≤ length c.args.pages.now) × (get_or c.args.layout.starts.now (c.args.node.0 + 1) 0 ≤ 1048576) = inside
     c.requires.0 c.args.node.0 c.requires.1 in
     part.0
 
 pub slice_bounds-has_free-end : goal.slice_bounds-has_free-end
-slice_bounds-has_free-end c = let part : (get_or c.args.starts.now c.args.node.0 0 ≤ get_or c.args.starts.now (c.args.node.0 + 1) 0) ×
-    (get_or c.args.starts.now (c.args.node.0 + 1) 0 ≤ length c.args.pages.now) × (get_or c.args.starts.now (c.args.node.0 + 1) 0 ≤ 1048576) = inside
+slice_bounds-has_free-end c = let part : (get_or c.args.layout.starts.now c.args.node.0 0 ≤ get_or c.args.layout.starts.now (c.args.node.0 + 1) 0) ×
+    (get_or c.args.layout.starts.now (c.args.node.0 + 1) 0 ≤ length c.args.pages.now) × (get_or c.args.layout.starts.now (c.args.node.0 + 1) 0 ≤ 1048576) = inside
     c.requires.0 c.args.node.0 c.requires.1 in
     part.1

@@ -43,4 +43,4 @@ write_at-requires c = let machine : Machine = machine_of c.args.counts.now c.arg
     let machine-ok : machine_ok (machine) ≡ true = sym c.machine_ok.ensures ∙ c.if-not-machine_ok.false in
     let tested : c.lent_ok.result ≡ request_tables_ok (machine) (tables) = c.lent_ok.ensures ∙ request_tested (machine) (tables)
     c.pages_end-total.ensures (machine-ok) in
-    (sym tested ∙ c.if-not-lent_ok.false, c.starts_of-starts.ensures)
+    sym tested ∙ c.if-not-lent_ok.false

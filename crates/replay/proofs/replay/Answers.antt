@@ -70,7 +70,7 @@ run_calls-requires c = let machine : Machine = machine_of c.args.counts.now c.ar
     let lent : c.lent_ok.result ≡ request_tables_ok (machine) (tables) = c.lent_ok.ensures ∙ request_tested _ (tables) c.pages_end-total.ensures (machine-ok) in
     let tables-ok : request_tables_ok (machine) (tables) ≡ true = sym (lent) ∙ c.if-not-lent_ok.false in
     let calls-ok : calls_ok c.args.calls.now ≡ true = sym c.calls_ok.ensures ∙ c.if-not-calls_ok.false in
-    (tables-ok, c.starts_of-starts.ensures, calls-ok, omega (arith, c.if-answers-calls.false))
+    (tables-ok, calls-ok, omega (arith, c.if-answers-calls.false))
 
 pub returns : goal.returns
 returns c = let machine : Machine = machine_of c.args.counts.now c.args.cpus.now c.args.distances.now in

@@ -27,23 +27,23 @@ loop-i-init c = record {
 
 pub perform-answer-requires : goal.perform-answer-requires
 perform-answer-requires c = let tables : Tables = tables_of c.args.pages.now c.args.jobs.now c.args.free.now c.args.maps.now in
-    (same_lengths_ok _ tables _ c.loop-i.invariant.long c.requires.0, c.requires.1, c.loop-i.invariant.hinted)
+    (same_lengths_ok _ tables _ c.loop-i.invariant.long c.requires.0, c.loop-i.invariant.hinted)
 
 -- no call is passed over
 pub loop-i-preserved-in_default : goal.loop-i-preserved-in_default
 loop-i-preserved-in_default c =
     let words : List ℕ = c.args.calls.now in
     let more : c.loop-i.i < call_count words = c.loop-i-test.true in
-    let x = accepted_some (call_in (words_of words c.loop-i.i)) (call_ok words c.loop-i.i c.requires.2 more) in
+    let x = accepted_some (call_in (words_of words c.loop-i.i)) (call_ok words c.loop-i.i c.requires.1 more) in
     absurd (c.in_default.ensures.says x.0 (ap call_in (part_words words c.loop-i.i) ∙ x.1))
 
 pub loop-i-preserved : goal.loop-i-preserved
-loop-i-preserved c = let machine : Machine = machine_of c.args.counts.now c.args.cpus.now c.args.distances.now in
+loop-i-preserved c = let machine : Machine = machine_of c.args.layout.counts.now c.args.cpus.now c.args.distances.now in
     let tables : Tables = tables_of c.args.pages.now c.args.jobs.now c.args.free.now c.args.maps.now in
     let words : List ℕ = c.args.calls.now in
     let list-long : length c.read_call.new.list ≡ 64 = c.read_call.ensures.long in
     let more : c.loop-i.i < call_count words = c.loop-i-test.true in
-    let x = accepted_some (call_in (words_of words c.loop-i.i)) (call_ok words c.loop-i.i c.requires.2 more) in
+    let x = accepted_some (call_in (words_of words c.loop-i.i)) (call_ok words c.loop-i.i c.requires.1 more) in
     let says = c.in-Some.ensures.says x.0 (ap call_in (part_words words c.loop-i.i) ∙ x.1) in
     record {
       long = lengths_then c.loop-i.invariant.long (record {
@@ -55,14 +55,14 @@ loop-i-preserved c = let machine : Machine = machine_of c.args.counts.now c.args
       long-answers = simp length-set c.loop-i.invariant.long-answers;
       long-list = list-long;
       hinted = c.perform-answer.ensures.kept;
-      done = advance machine tables words c.args.answers.now c.loop-i.i _ _ x.0 _ _ _ x.1 (omega (arith, c.requires.3)) c.loop-i.invariant.done
+      done = advance machine tables words c.args.answers.now c.loop-i.i _ _ x.0 _ _ _ x.1 (omega (arith, c.requires.2)) c.loop-i.invariant.done
           (c.perform-answer.ensures.did x.0 says) c.answer_word.ensures;
     }
 
 pub returns : goal.returns
-returns c = let machine : Machine = machine_of c.args.counts.now c.args.cpus.now c.args.distances.now in
+returns c = let machine : Machine = machine_of c.args.layout.counts.now c.args.cpus.now c.args.distances.now in
     let tables : Tables = tables_of c.args.pages.now c.args.jobs.now c.args.free.now c.args.maps.now in
     let words : List ℕ = c.args.calls.now in
     let all : c.loop-i.i ≡ call_count words = omega (arith, c.loop-i-test.false) in
     finished machine tables words c.args.answers.now _ _
-    (accepted machine tables words _ c.requires.0 c.requires.2 c.requires.3) (rw all at c.loop-i.invariant.done)
+    (accepted machine tables words _ c.requires.0 c.requires.1 c.requires.2) (rw all at c.loop-i.invariant.done)

@@ -21,5 +21,5 @@ pub record Held (m : Machine) (t₀ : Tables) (calls answers₀ : List ℕ) (n :
   pub done : Done m t₀ calls answers₀ i t answers
 
 abbrev pub invariant-loop-i : goal.invariant-loop-i
-invariant-loop-i l = Held (machine_of l.counts l.cpus l.distances) (tables_of l.initial.pages l.initial.jobs l.initial.free l.initial.maps) l.calls
+invariant-loop-i l = Held (machine_of l.layout.counts.now l.cpus l.distances) (tables_of l.initial.pages l.initial.jobs l.initial.free l.initial.maps) l.calls
     l.initial.answers l.n (tables_of l.pages l.jobs l.free l.maps) l.answers l.hints l.list l.i

@@ -9,10 +9,10 @@ use Rattle.book.proofs.hints.release.Goals as goal
 
 pub keep-requires : goal.keep-requires
 keep-requires c = let tables : Tables = tables_of c.args.pages.now c.args.jobs.now c.args.free.now c.args.maps.now in
-    let after : Hints c.args.counts.now c.release_at-placed.new.pages
-    (hinted c.args.starts.now c.args.job c.args.hints.now c.release_at-placed.result) × Named c.args.starts.now c.release_at-placed.result = let
+    let after : Hints c.args.layout.counts.now c.release_at-placed.new.pages
+    (hinted c.args.layout.starts.now c.args.job c.args.hints.now c.release_at-placed.result) × Named c.args.layout.starts.now c.release_at-placed.result = let
     i = (pages_in_order_lem _ _ _ (fresh_ok _ (tables) c.requires.0)).counts_ok_lem in
-    release_hints c.args.counts.now c.args.starts.now (tables) c.args.hints.now i c.requires.1 c.requires.2 c.args.job c.args.page
+    release_hints c.args.layout.counts.now c.args.layout.starts.now (tables) c.args.hints.now i c.args.layout.begin c.requires.1 c.args.job c.args.page
     c.release_at-placed.result (map_of (tables) c.args.job) c.release_at-placed.ensures.found c.release_at-placed.ensures.did in
     after.1
 
@@ -24,10 +24,10 @@ tell-requires c = let tables : Tables = tables_of c.args.pages.now c.args.jobs.n
 pub returns : goal.returns
 unfolding map_of
 returns c = let tables : Tables = tables_of c.args.pages.now c.args.jobs.now c.args.free.now c.args.maps.now in
-    let after : Hints c.args.counts.now c.release_at-placed.new.pages
-    (hinted c.args.starts.now c.args.job c.args.hints.now c.release_at-placed.result) × Named c.args.starts.now c.release_at-placed.result = let
+    let after : Hints c.args.layout.counts.now c.release_at-placed.new.pages
+    (hinted c.args.layout.starts.now c.args.job c.args.hints.now c.release_at-placed.result) × Named c.args.layout.starts.now c.release_at-placed.result = let
     i = (pages_in_order_lem _ _ _ (fresh_ok _ (tables) c.requires.0)).counts_ok_lem in
-    release_hints c.args.counts.now c.args.starts.now (tables) c.args.hints.now i c.requires.1 c.requires.2 c.args.job c.args.page
+    release_hints c.args.layout.counts.now c.args.layout.starts.now (tables) c.args.hints.now i c.args.layout.begin c.requires.1 c.args.job c.args.page
     c.release_at-placed.result (map_of (tables) c.args.job) c.release_at-placed.ensures.found c.release_at-placed.ensures.did in
     record {
       did = rw c.tell.ensures c.release_at-placed.ensures.did;

@@ -10,29 +10,29 @@ use Rattle.placement.proofs.Requests.{request_map}
 use Rattle.book.proofs.hints.request.Goals as goal
 
 pub keep-requires : goal.keep-requires
-keep-requires c = let machine : Machine = machine_of c.args.counts.now c.args.cpus.now c.args.distances.now in
+keep-requires c = let machine : Machine = machine_of c.args.layout.counts.now c.args.cpus.now c.args.distances.now in
     let tables : Tables = tables_of c.args.pages.now c.args.jobs.now c.args.free.now c.args.maps.now in
-    let after : Hints c.args.counts.now c.request_at-placed.new.pages
-    (hinted c.args.starts.now c.args.job c.args.hints.now c.request_at-placed.result) × Named c.args.starts.now c.request_at-placed.result = let
+    let after : Hints c.args.layout.counts.now c.request_at-placed.new.pages
+    (hinted c.args.layout.starts.now c.args.job c.args.hints.now c.request_at-placed.result) × Named c.args.layout.starts.now c.request_at-placed.result = let
     i = (pages_in_order_lem _ _ _ (fresh_ok _ (tables) (release_ok (machine) (tables) c.requires.0))).counts_ok_lem in
-    request_hints (machine) c.args.starts.now (tables) c.args.hints.now i c.requires.1 c.requires.2 c.args.job c.args.cpu
+    request_hints (machine) c.args.layout.starts.now (tables) c.args.hints.now i c.args.layout.begin c.requires.1 c.args.job c.args.cpu
     c.request_at-placed.result (map_of (tables) c.args.job) c.request_at-placed.ensures.found c.request_at-placed.ensures.did in
     after.1
 
 pub tell-requires : goal.tell-requires
-tell-requires c = let machine : Machine = machine_of c.args.counts.now c.args.cpus.now c.args.distances.now in
+tell-requires c = let machine : Machine = machine_of c.args.layout.counts.now c.args.cpus.now c.args.distances.now in
     let tables : Tables = tables_of c.args.pages.now c.args.jobs.now c.args.free.now c.args.maps.now in
     request_map machine tables c.args.job c.args.cpu (map_of tables c.args.job) c.request_at-placed.result c.requires.0
     c.request_at-placed.ensures.did
 
 pub returns : goal.returns
 unfolding map_of
-returns c = let machine : Machine = machine_of c.args.counts.now c.args.cpus.now c.args.distances.now in
+returns c = let machine : Machine = machine_of c.args.layout.counts.now c.args.cpus.now c.args.distances.now in
     let tables : Tables = tables_of c.args.pages.now c.args.jobs.now c.args.free.now c.args.maps.now in
-    let after : Hints c.args.counts.now c.request_at-placed.new.pages
-    (hinted c.args.starts.now c.args.job c.args.hints.now c.request_at-placed.result) × Named c.args.starts.now c.request_at-placed.result = let
+    let after : Hints c.args.layout.counts.now c.request_at-placed.new.pages
+    (hinted c.args.layout.starts.now c.args.job c.args.hints.now c.request_at-placed.result) × Named c.args.layout.starts.now c.request_at-placed.result = let
     i = (pages_in_order_lem _ _ _ (fresh_ok _ (tables) (release_ok (machine) (tables) c.requires.0))).counts_ok_lem in
-    request_hints (machine) c.args.starts.now (tables) c.args.hints.now i c.requires.1 c.requires.2 c.args.job c.args.cpu
+    request_hints (machine) c.args.layout.starts.now (tables) c.args.hints.now i c.args.layout.begin c.requires.1 c.args.job c.args.cpu
     c.request_at-placed.result (map_of (tables) c.args.job) c.request_at-placed.ensures.found c.request_at-placed.ensures.did in
     record {
       did = rw c.tell.ensures c.request_at-placed.ensures.did;

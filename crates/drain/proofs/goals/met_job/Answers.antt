@@ -13,5 +13,5 @@ returns-in-Some c order free m = m.kept c.args.byte c.in-Some.job c.in-Some.is
 -- it is met now, and may be moved
 pub returns : goal.returns
 returns c order free m = let b = c.args.board in
-    let s = some_if (may_move (length b.counts.now) b.jobs.now b.maps.now (c.args.byte - 1)) c.in_ok-limit.ensures in
+    let s = some_if (may_move (length b.layout.counts.now) b.jobs.now b.maps.now (c.args.byte - 1)) c.in_ok-limit.ensures in
     kept_first s.0 s.1

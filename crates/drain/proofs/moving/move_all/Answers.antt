@@ -19,7 +19,7 @@ move_at-at-requires c = let d = c.requires.maps_value.1 in
         c.requires.maps_value.0,
         now_drainable d v.0 by.0 by.1 by.2 by.3,
         next_carried d v.0 by.0 by.1 by.2 by.3 inside,
-        omega (arith, inside, v.0.few, node_end c.args.board.counts.now c.args.board.x.0, d.paged.pages),
+        omega (arith, inside, v.0.few, node_end c.args.board.layout.counts.now c.args.board.x.0, d.paged.pages),
       );
       met = (v.1, v.2);
     }

@@ -10,7 +10,7 @@ use Rattle.drain.proofs.Moved.{goal_carries}
 use Rattle.drain.proofs.moving.move_at.Goals as goal
 
 pub bounds-pages-page : goal.bounds-pages-page
-bounds-pages-page c = let page : PageOf c.args.board.counts.now c.args.board.x.0 c.args.page.0 = record
+bounds-pages-page c = let page : PageOf c.args.board.layout.counts.now c.args.board.x.0 c.args.page.0 = record
     { start = c.requires.maps_value.2.start; end = c.requires.maps_value.2.end } in
     omega (arith, page_lt page, c.requires.maps_value.1.paged.fits)
 

@@ -33,7 +33,7 @@ run_records-requires c = let good : Good c.args.opening.now (machine_size c.args
     let tables-ok : let counts = take c.byte_at-n.result c.page_counts-all.result in
     request_tables_ok (machine_of counts c.cpu_bytes-cpus.result.now c.distance_bytes-distances.result.now)
     (tables_of c.args.pages.now c.args.jobs.now c.args.free.now c.args.maps.now) ≡ true = rw (machine) c.requires.tables in
-    (tables-ok, c.starts_of-starts.ensures, zero_hints _ _ 320)
+    (tables-ok, zero_hints _ _ 320)
 
 pub page_counts-all-requires : goal.page_counts-all-requires
 page_counts-all-requires c = let good : Good c.args.opening.now (machine_size c.args.opening.now) = good_opening c.args.opening.now c.requires.good in

@@ -27,5 +27,5 @@ returns-in-None c =
     let damage = is_damaged _ c.in-None.is c.read_record.ensures in
     record {
       did = record_damaged _ _ _ _ damage c.fault-bytes.ensures c.copy-in-None.ensures.count c.copy-in-None.ensures.bytes;
-      kept = c.requires.3;
+      kept = c.requires.2;
     }

@@ -10,7 +10,6 @@ use Rattle.journal.proofs.run.run_records.Goals as goal
 pub run_record-one-requires : goal.run_record-one-requires
 run_record-one-requires c = let i = c.loop-output.invariant in (
   same_lengths_ok _ _ _ i.0 c.requires.0,
-  c.requires.1,
   lent_room i.2 c.ready.ensures c.loop-output-test.true,
   i.3,
 )

@@ -19,23 +19,23 @@ use Rattle.placement.proofs.Grants.{node_end, Picked, picked, held_before_lem}
 use Rattle.placement.proofs.grant.mark_page.Goals as goal
 
 pub part_of-part-requires : goal.part_of-part-requires
-part_of-part-requires c = let counts : List ℕ = c.args.counts.now in
+part_of-part-requires c = let counts : List ℕ = c.args.layout.counts.now in
     let node : ℕ = c.args.node.0 in
-    let first-is : get_or c.args.starts.now (node) 0 ≡ first_page (counts) (node) = c.requires.0.begin.at (node) (omega (arith, c.requires.1)) in
-    let end_is : get_or c.args.starts.now (node + 1) 0 ≡ first_page (counts) (node) + get_or (counts) (node) 0 = c.requires.0.begin.at (node + 1)
+    let first-is : get_or c.args.layout.starts.now (node) 0 ≡ first_page (counts) (node) = c.requires.0.begin.at (node) (omega (arith, c.requires.1)) in
+    let end_is : get_or c.args.layout.starts.now (node + 1) 0 ≡ first_page (counts) (node) + get_or (counts) (node) 0 = c.requires.0.begin.at (node + 1)
     (omega (arith, c.requires.1)) ∙ pages_step (counts) (node) in
     (omega (arith, c.requires.1, c.requires.0.few), omega (arith, first-is, end_is))
 
 pub pick-requires : goal.pick-requires
 unfolding has_colour
-pick-requires c = let counts : List ℕ = c.args.counts.now in
+pick-requires c = let counts : List ℕ = c.args.layout.counts.now in
     let ledger : List ℕ = c.args.pages.now in
     let node : ℕ = c.args.node.0 in
     let low : ℕ = c.part_of-part.result.low.0 in
     let size : ℕ = c.part_of-part.result.end.0 - low in
-    let first-is : get_or c.args.starts.now (node) 0 ≡ first_page (counts) (node) = c.requires.0.begin.at (node) (omega (arith, c.requires.1)) in
+    let first-is : get_or c.args.layout.starts.now (node) 0 ≡ first_page (counts) (node) = c.requires.0.begin.at (node) (omega (arith, c.requires.1)) in
     let after : first_page (counts) (node) ≤ low = omega (arith, c.part_of-part.ensures.first, first-is) in
-    let end_is : get_or c.args.starts.now (node + 1) 0 ≡ first_page (counts) (node) + get_or (counts) (node) 0 = c.requires.0.begin.at (node + 1)
+    let end_is : get_or c.args.layout.starts.now (node + 1) 0 ≡ first_page (counts) (node) + get_or (counts) (node) 0 = c.requires.0.begin.at (node + 1)
     (omega (arith, c.requires.1)) ∙ pages_step (counts) (node) in
     let ends : low + size ≡ first_page (counts) (node) + get_or (counts) (node) 0 = omega
     (arith, c.part_of-part.ensures.last, c.part_of-part.ensures.end, end_is) in
@@ -59,16 +59,16 @@ pick-requires c = let counts : List ℕ = c.args.counts.now in
     )
 
 pub after-requires : goal.after-requires
-after-requires c = let counts : List ℕ = c.args.counts.now in
+after-requires c = let counts : List ℕ = c.args.layout.counts.now in
     let node : ℕ = c.args.node.0 in
-    let end_is : get_or c.args.starts.now (node + 1) 0 ≡ first_page (counts) (node) + get_or (counts) (node) 0 = c.requires.0.begin.at (node + 1)
+    let end_is : get_or c.args.layout.starts.now (node + 1) 0 ≡ first_page (counts) (node) + get_or (counts) (node) 0 = c.requires.0.begin.at (node + 1)
     (omega (arith, c.requires.1)) ∙ pages_step (counts) (node) in
     let low : ℕ = c.part_of-part.result.low.0 in
     let size : ℕ = c.part_of-part.result.end.0 - low in
     let ends : low + size ≡ first_page (counts) (node) + get_or (counts) (node) 0 = omega
     (arith, c.part_of-part.ensures.last, c.part_of-part.ensures.end, end_is) in
     let ledger : List ℕ = c.args.pages.now in
-    let first-is : get_or c.args.starts.now (node) 0 ≡ first_page (counts) (node) = c.requires.0.begin.at (node) (omega (arith, c.requires.1)) in
+    let first-is : get_or c.args.layout.starts.now (node) 0 ≡ first_page (counts) (node) = c.requires.0.begin.at (node) (omega (arith, c.requires.1)) in
     let after : first_page (counts) (node) ≤ low = omega (arith, c.part_of-part.ensures.first, first-is) in
     let held : (q : ℕ) → first_page (counts) (node) ≤ q → q < low → 0 < get_or (ledger) q 1 = λ q a b. c.requires.2.held (node) all_pages q a
     (omega (arith, b, ends)) (inl refl) (c.part_of-part.ensures.passed q (omega (arith, a, first-is)) b) in
@@ -83,14 +83,14 @@ after-requires c = let counts : List ℕ = c.args.counts.now in
     omega (arith, within, ends, node_end counts node, c.requires.0.pages)
 
 pub returns : goal.returns
-returns c = let counts : List ℕ = c.args.counts.now in
+returns c = let counts : List ℕ = c.args.layout.counts.now in
     let ledger : List ℕ = c.args.pages.now in
     let node : ℕ = c.args.node.0 in
     let low : ℕ = c.part_of-part.result.low.0 in
     let size : ℕ = c.part_of-part.result.end.0 - low in
-    let first-is : get_or c.args.starts.now (node) 0 ≡ first_page (counts) (node) = c.requires.0.begin.at (node) (omega (arith, c.requires.1)) in
+    let first-is : get_or c.args.layout.starts.now (node) 0 ≡ first_page (counts) (node) = c.requires.0.begin.at (node) (omega (arith, c.requires.1)) in
     let after : first_page (counts) (node) ≤ low = omega (arith, c.part_of-part.ensures.first, first-is) in
-    let end_is : get_or c.args.starts.now (node + 1) 0 ≡ first_page (counts) (node) + get_or (counts) (node) 0 = c.requires.0.begin.at (node + 1)
+    let end_is : get_or c.args.layout.starts.now (node + 1) 0 ≡ first_page (counts) (node) + get_or (counts) (node) 0 = c.requires.0.begin.at (node + 1)
     (omega (arith, c.requires.1)) ∙ pages_step (counts) (node) in
     let ends : low + size ≡ first_page (counts) (node) + get_or (counts) (node) 0 = omega
     (arith, c.part_of-part.ensures.last, c.part_of-part.ensures.end, end_is) in
@@ -110,14 +110,14 @@ returns c = let counts : List ℕ = c.args.counts.now in
     }
 
 pub returns-in_err-offset : goal.returns-in_err-offset
-returns-in_err-offset c = let counts : List ℕ = c.args.counts.now in
+returns-in_err-offset c = let counts : List ℕ = c.args.layout.counts.now in
     let ledger : List ℕ = c.args.pages.now in
     let node : ℕ = c.args.node.0 in
     let low : ℕ = c.part_of-part.result.low.0 in
     let size : ℕ = c.part_of-part.result.end.0 - low in
-    let first-is : get_or c.args.starts.now (node) 0 ≡ first_page (counts) (node) = c.requires.0.begin.at (node) (omega (arith, c.requires.1)) in
+    let first-is : get_or c.args.layout.starts.now (node) 0 ≡ first_page (counts) (node) = c.requires.0.begin.at (node) (omega (arith, c.requires.1)) in
     let after : first_page (counts) (node) ≤ low = omega (arith, c.part_of-part.ensures.first, first-is) in
-    let end_is : get_or c.args.starts.now (node + 1) 0 ≡ first_page (counts) (node) + get_or (counts) (node) 0 = c.requires.0.begin.at (node + 1)
+    let end_is : get_or c.args.layout.starts.now (node + 1) 0 ≡ first_page (counts) (node) + get_or (counts) (node) 0 = c.requires.0.begin.at (node + 1)
     (omega (arith, c.requires.1)) ∙ pages_step (counts) (node) in
     let ends : low + size ≡ first_page (counts) (node) + get_or (counts) (node) 0 = omega
     (arith, c.part_of-part.ensures.last, c.part_of-part.ensures.end, end_is) in
@@ -143,10 +143,10 @@ returns-in_err-offset c = let counts : List ℕ = c.args.counts.now in
 
 pub slice_bounds-pick-end : goal.slice_bounds-pick-end
 slice_bounds-pick-end c =
-    let counts : List ℕ = c.args.counts.now in
+    let counts : List ℕ = c.args.layout.counts.now in
     let ledger : List ℕ = c.args.pages.now in
     let node : ℕ = c.args.node.0 in
-    let end_is : get_or c.args.starts.now (node + 1) 0 ≡ first_page (counts) (node) + get_or (counts) (node) 0 = c.requires.0.begin.at (node + 1)
+    let end_is : get_or c.args.layout.starts.now (node + 1) 0 ≡ first_page (counts) (node) + get_or (counts) (node) 0 = c.requires.0.begin.at (node + 1)
     (omega (arith, c.requires.1)) ∙ pages_step (counts) (node) in
     let inside : c.part_of-part.result.end.0 ≤ length (ledger) = omega
     (arith, c.part_of-part.ensures.end, end_is, node_end (counts) (node), c.requires.0.fits) in
