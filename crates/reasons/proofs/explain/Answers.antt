@@ -58,9 +58,11 @@ met c =
     c.meets_room.ensures ∙ ap (meets_room c.args.layout.counts.now c.args.pages.now) (found (goal.at.After-meets_room c).After-search-chosen)
 
 pub meets_room-requires : goal.meets_room-requires
-meets_room-requires c =
-    (c.requires.0.paged, is_node_lem c.args.layout.counts.now c.args.free.now _ c.search-chosen.result c.requires.0.one_each
-    (found (goal.at.meets_room-requires c).After-search-chosen))
+meets_room-requires c = (
+  c.requires.0.paged,
+  is_node_lem c.args.layout.counts.now c.args.free.now _ c.search-chosen.result c.requires.0.one_each
+      (found (goal.at.meets_room-requires c).After-search-chosen),
+)
 
 pub returns-then-not-meets_room : goal.returns-then-not-meets_room
 returns-then-not-meets_room c =
