@@ -46,7 +46,7 @@ pub fn request(
         job,
         cpu,
     );
-    hinting::keep(layout, hints, job, placed);
+    hinting::keep(layout.starts, hints, job, placed);
     placed::tell(maps, job, placed)
 }
 
@@ -66,7 +66,7 @@ pub fn release(
     ensures kept { Hints layout.entry.counts.now pages.new hints.new }
 {
     let placed = placement::release_at(layout, pages, jobs, free, maps, job, page);
-    hinting::keep(layout, hints, job, placed);
+    hinting::keep(layout.starts, hints, job, placed);
     placed::tell(maps, job, placed)
 }
 

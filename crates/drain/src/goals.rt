@@ -32,14 +32,20 @@ pub type MetJobs = [Option<MetJob>; BYTES];
 // At first no job has been met.
 pub const NONE_MET: MetJobs = [None; BYTES];
 
-// What a drain reads and does not write: the pages of the nodes, the node x that is drained, the other nodes, nearest first, job table and maps.
+// What says where a page goes: the other nodes, nearest first, job table and maps.
+#[derive(Clone, Copy)]
+pub struct Targets<'a> {
+    pub order: &'a [u8],
+    pub jobs: &'a [u64],
+    pub maps: &'a [u8],
+}
+
+// What a drain reads and does not write: the pages of the nodes, the node x that is drained, and what says where its pages go.
 #[derive(Clone, Copy)]
 pub struct Board<'a> {
     pub layout: Layout<'a>,
     pub x: SysNode,
-    pub order: &'a [u8],
-    pub jobs: &'a [u64],
-    pub maps: &'a [u8],
+    pub targets: Targets<'a>,
 }
 
 // The nodes that the job of a byte may get; or none: the byte names no job, or the job's record or map is malformed.
@@ -59,14 +65,14 @@ fn holder_of(nodes: usize, jobs: &[u64], maps: &[u8], byte: u8) -> Option<Mask>
 }
 
 // The job of a byte, as it is kept, or judged now if it has not been met before; or none: its pages may not be moved.
-fn met_job(board: Board, met: &MetJobs, byte: u8) -> Option<MetJob>
-    requires { (mapped_tables_ok (length board.layout.counts.now) (length board.jobs.now) (length board.maps.now) ≡ true) × (0 < byte) }
-    ensures { let b = board.entry in MatchOption result (may_move (length b.layout.counts.now) b.jobs.now b.maps.now (byte - 1) ≡ false) (λ job. (order free : List ℕ) → Met (length b.layout.counts.now) order b.jobs.now b.maps.now free met.now → Kept (length b.layout.counts.now) order b.jobs.now b.maps.now free job byte) }
+fn met_job(nodes: usize, targets: Targets, met: &MetJobs, byte: u8) -> Option<MetJob>
+    requires { (mapped_tables_ok nodes (length targets.jobs.now) (length targets.maps.now) ≡ true) × (0 < byte) }
+    ensures { let t = targets.entry in MatchOption result (may_move nodes t.jobs.now t.maps.now (byte - 1) ≡ false) (λ job. (order free : List ℕ) → Met nodes order t.jobs.now t.maps.now free met.now → Kept nodes order t.jobs.now t.maps.now free job byte) }
 {
     if let Some(job) = met[byte as usize] {
         return Some(job);
     }
-    let limit = holder_of(board.layout.counts.len(), board.jobs, board.maps, byte)?;
+    let limit = holder_of(nodes, targets.jobs, targets.maps, byte)?;
     Some(MetJob { limit, from: 0 })
 }
 
@@ -84,18 +90,24 @@ fn next_open(order: &[u8], free: &[u32], limit: Mask, from: usize) -> Option<usi
 }
 
 // Where a page that has this byte goes.
-pub fn goal_of(board: Board, free: &[u32], met: &mut MetJobs, byte: u8) -> Option<SysNode>
-    requires { (mapped_tables_ok (length board.layout.counts.now) (length board.jobs.now) (length board.maps.now) ≡ true) × (0 < byte) × (length board.order.now ≤ 64) × Met (length board.layout.counts.now) board.order.now board.jobs.now board.maps.now free.now met.old }
-    ensures goes { let b = board.entry in goal_of result ≡ goal_by (length b.layout.counts.now) b.order.now b.jobs.now b.maps.now free.now (byte - 1) }
-    ensures kept { let b = board.entry in Met (length b.layout.counts.now) b.order.now b.jobs.now b.maps.now free.now met.new }
+pub fn goal_of(
+    nodes: usize,
+    targets: Targets,
+    free: &[u32],
+    met: &mut MetJobs,
+    byte: u8,
+) -> Option<SysNode>
+    requires { (mapped_tables_ok nodes (length targets.jobs.now) (length targets.maps.now) ≡ true) × (0 < byte) × (length targets.order.now ≤ 64) × Met nodes targets.order.now targets.jobs.now targets.maps.now free.now met.old }
+    ensures goes { let t = targets.entry in goal_of result ≡ goal_by nodes t.order.now t.jobs.now t.maps.now free.now (byte - 1) }
+    ensures kept { let t = targets.entry in Met nodes t.order.now t.jobs.now t.maps.now free.now met.new }
 {
-    let job = met_job(board, met, byte)?;
-    let at = next_open(board.order, free, job.limit, job.from as usize)?;
+    let job = met_job(nodes, targets, met, byte)?;
+    let at = next_open(targets.order, free, job.limit, job.from as usize)?;
     met[byte as usize] = Some(MetJob {
         limit: job.limit,
         from: at as u8,
     });
-    Some(SysNode(board.order[at]))
+    Some(SysNode(targets.order[at]))
 }
 
 // The counts after a move from x to another node.
@@ -113,16 +125,16 @@ pub fn count_move(free: &mut [u32], x: SysNode, node: SysNode)
 
 // A page of node x that has this byte: has it somewhere to go? Its move is counted; a free page has none.
 fn pass(board: Board, free: &mut [u32], met: &mut MetJobs, byte: u8) -> bool
-    requires { (mapped_tables_ok (length board.layout.counts.now) (length board.jobs.now) (length board.maps.now) ≡ true) × Ordered (length board.layout.counts.now) board.x.0 board.order.now free.old × Met (length board.layout.counts.now) board.order.now board.jobs.now board.maps.now free.old met.old × (get_or free.old board.x.0 0 < 4294967295) }
+    requires { (mapped_tables_ok (length board.layout.counts.now) (length board.targets.jobs.now) (length board.targets.maps.now) ≡ true) × Ordered (length board.layout.counts.now) board.x.0 board.targets.order.now free.old × Met (length board.layout.counts.now) board.targets.order.now board.targets.jobs.now board.targets.maps.now free.old met.old × (get_or free.old board.x.0 0 < 4294967295) }
     ensures stays { byte ≡ 0 → (result ≡ true) × (free.new ≡ free.old) }
-    ensures stuck { let b = board.entry in 0 < byte → goal_by (length b.layout.counts.now) b.order.now b.jobs.now b.maps.now free.old (byte - 1) ≡ none → result ≡ false }
-    ensures goes { let b = board.entry in 0 < byte → (k : ℕ) → goal_by (length b.layout.counts.now) b.order.now b.jobs.now b.maps.now free.old (byte - 1) ≡ some k → (result ≡ true) × (free.new ≡ after_move b.x.0 free.old k) }
-    ensures kept { let b = board.entry in Met (length b.layout.counts.now) b.order.now b.jobs.now b.maps.now free.new met.new }
+    ensures stuck { let b = board.entry in 0 < byte → goal_by (length b.layout.counts.now) b.targets.order.now b.targets.jobs.now b.targets.maps.now free.old (byte - 1) ≡ none → result ≡ false }
+    ensures goes { let b = board.entry in 0 < byte → (k : ℕ) → goal_by (length b.layout.counts.now) b.targets.order.now b.targets.jobs.now b.targets.maps.now free.old (byte - 1) ≡ some k → (result ≡ true) × (free.new ≡ after_move b.x.0 free.old k) }
+    ensures kept { let b = board.entry in Met (length b.layout.counts.now) b.targets.order.now b.targets.jobs.now b.targets.maps.now free.new met.new }
 {
     if byte == 0 {
         return true;
     }
-    match goal_of(board, free, met, byte) {
+    match goal_of(board.layout.counts.len(), board.targets, free, met, byte) {
         Some(node) => {
             count_move(free, board.x, node);
             true
@@ -133,8 +145,8 @@ fn pass(board: Board, free: &mut [u32], met: &mut MetJobs, byte: u8) -> bool
 
 // Have all pages of node x that have these bytes somewhere to go? Each move is counted.
 fn all_pass(board: Board, free: &mut [u32], part: &[u8]) -> bool
-    requires { (mapped_tables_ok (length board.layout.counts.now) (length board.jobs.now) (length board.maps.now) ≡ true) × Ordered (length board.layout.counts.now) board.x.0 board.order.now free.old × (get_or free.old board.x.0 0 + length part.now ≤ 4294967295) }
-    ensures { let b = board.entry in result ≡ passes (length b.layout.counts.now) b.order.now b.jobs.now b.maps.now b.x.0 free.old part.now }
+    requires { (mapped_tables_ok (length board.layout.counts.now) (length board.targets.jobs.now) (length board.targets.maps.now) ≡ true) × Ordered (length board.layout.counts.now) board.x.0 board.targets.order.now free.old × (get_or free.old board.x.0 0 + length part.now ≤ 4294967295) }
+    ensures { let b = board.entry in result ≡ passes (length b.layout.counts.now) b.targets.order.now b.targets.jobs.now b.targets.maps.now b.x.0 free.old part.now }
 {
     let mut met = NONE_MET;
     for byte in part {
@@ -147,8 +159,8 @@ fn all_pass(board: Board, free: &mut [u32], part: &[u8]) -> bool
 
 // Has every held page of node x somewhere to go? By counts of its own, so that nothing is written.
 pub fn all_go(board: Board, pages: &[u8], free: &[u32]) -> bool
-    requires { (mapped_tables_ok (length board.layout.counts.now) (length board.jobs.now) (length board.maps.now) ≡ true) × Drainable board.layout.counts.now board.layout.starts.now board.x.0 board.order.now pages.now free.now }
-    ensures { let b = board.entry in (distances : List ℕ) → b.order.now ≡ near_others (length b.layout.counts.now) distances b.x.0 → Goes result (moves b.layout.counts.now distances b.x.0 (tables_of pages.now b.jobs.now free.now b.maps.now) (held_pages b.layout.counts.now pages.now b.x.0)) }
+    requires { (mapped_tables_ok (length board.layout.counts.now) (length board.targets.jobs.now) (length board.targets.maps.now) ≡ true) × Drainable board.layout.counts.now board.layout.starts.now board.x.0 board.targets.order.now pages.now free.now }
+    ensures { let b = board.entry in (distances : List ℕ) → b.targets.order.now ≡ near_others (length b.layout.counts.now) distances b.x.0 → Goes result (moves b.layout.counts.now distances b.x.0 (tables_of pages.now b.targets.jobs.now free.now b.targets.maps.now) (held_pages b.layout.counts.now pages.now b.x.0)) }
 {
     let start = board.layout.starts[board.x.0 as usize] as usize;
     let end = board.layout.starts[board.x.0 as usize + 1] as usize;

@@ -12,7 +12,7 @@ ghost use Rattle.rules.specs.Drain.{drain_tables_ok, moves_within, drain_moves, 
 ghost use Rattle.placement.specs.Hints.{Hints};
 ghost use Rattle.drain.specs.Outcomes.{count_of, tables_after, pairs_after};
 
-use goals::Board;
+use goals::{Board, Targets};
 use machine;
 use machine::layout::Layout;
 use machine::listing;
@@ -35,11 +35,11 @@ fn drain_by(
     room: usize,
     out: &mut [u32],
 ) -> Result<u64, Refusal>
-    requires maps_value { (mapped_tables_ok (length board.layout.counts.now) (length board.jobs.now) (length board.maps.now) ≡ true) × Drainable board.layout.counts.now board.layout.starts.now board.x.0 board.order.now pages.old free.old × Hints board.layout.counts.now pages.old hints.old }
-    requires by_index { (distances : List ℕ) × (board.order.now ≡ near_others (length board.layout.counts.now) distances board.x.0) }
-    ensures answer { let b = board.entry in (distances : List ℕ) → b.order.now ≡ near_others (length b.layout.counts.now) distances b.x.0 → decision_of result ≡ count_of (moves_within b.layout.counts.now distances b.x.0 (tables_of pages.old b.jobs.now free.old b.maps.now) room) }
-    ensures tables { let b = board.entry in (distances : List ℕ) → b.order.now ≡ near_others (length b.layout.counts.now) distances b.x.0 → tables_of pages.new b.jobs.now free.new b.maps.now ≡ tables_after b.x.0 (tables_of pages.old b.jobs.now free.old b.maps.now) (moves_within b.layout.counts.now distances b.x.0 (tables_of pages.old b.jobs.now free.old b.maps.now) room) }
-    ensures pairs { let b = board.entry in (distances : List ℕ) → b.order.now ≡ near_others (length b.layout.counts.now) distances b.x.0 → room ≡ length out.old → out.new ≡ pairs_after out.old (moves_within b.layout.counts.now distances b.x.0 (tables_of pages.old b.jobs.now free.old b.maps.now) room) }
+    requires maps_value { (mapped_tables_ok (length board.layout.counts.now) (length board.targets.jobs.now) (length board.targets.maps.now) ≡ true) × Drainable board.layout.counts.now board.layout.starts.now board.x.0 board.targets.order.now pages.old free.old × Hints board.layout.counts.now pages.old hints.old }
+    requires by_index { (distances : List ℕ) × (board.targets.order.now ≡ near_others (length board.layout.counts.now) distances board.x.0) }
+    ensures answer { let b = board.entry in (distances : List ℕ) → b.targets.order.now ≡ near_others (length b.layout.counts.now) distances b.x.0 → decision_of result ≡ count_of (moves_within b.layout.counts.now distances b.x.0 (tables_of pages.old b.targets.jobs.now free.old b.targets.maps.now) room) }
+    ensures tables { let b = board.entry in (distances : List ℕ) → b.targets.order.now ≡ near_others (length b.layout.counts.now) distances b.x.0 → tables_of pages.new b.targets.jobs.now free.new b.targets.maps.now ≡ tables_after b.x.0 (tables_of pages.old b.targets.jobs.now free.old b.targets.maps.now) (moves_within b.layout.counts.now distances b.x.0 (tables_of pages.old b.targets.jobs.now free.old b.targets.maps.now) room) }
+    ensures pairs { let b = board.entry in (distances : List ℕ) → b.targets.order.now ≡ near_others (length b.layout.counts.now) distances b.x.0 → room ≡ length out.old → out.new ≡ pairs_after out.old (moves_within b.layout.counts.now distances b.x.0 (tables_of pages.old b.targets.jobs.now free.old b.targets.maps.now) room) }
     ensures kept { let b = board.entry in Hints b.layout.counts.now pages.new hints.new }
 {
     if !goals::all_go(board, pages, free) {
@@ -87,9 +87,11 @@ pub fn drain_at(
     let board = Board {
         layout,
         x,
-        order: &order[1..len],
-        jobs,
-        maps,
+        targets: Targets {
+            order: &order[1..len],
+            jobs,
+            maps,
+        },
     };
     drain_by(board, hints, pages, free, room, out)
 }

@@ -37,14 +37,14 @@ fn carry(
     match grant::mark_page(board.layout, &hints[..], pages, node, job) {
         Some(new) => {
             hinting::keep(
-                board.layout,
+                board.layout.starts,
                 hints,
                 job as usize,
                 Ok(Placed::Granted(node, new)),
             );
             pages[page.0 as usize] = 0;
             hinting::keep(
-                board.layout,
+                board.layout.starts,
                 hints,
                 job as usize,
                 Ok(Placed::Released(board.x, page)),
@@ -78,17 +78,17 @@ fn move_at(
     out: &mut [u32],
     at: usize,
 ) -> usize
-    requires maps_value { (mapped_tables_ok (length board.layout.counts.now) (length board.jobs.now) (length board.maps.now) ≡ true) × Drainable board.layout.counts.now board.layout.starts.now board.x.0 board.order.now pages.old free.old × MayCarry board.layout.counts.now board.order.now pages.old board.jobs.now free.old board.maps.now board.x.0 page.0 × (at + 2 ≤ 18446744073709551615) }
-    requires met { Met (length board.layout.counts.now) board.order.now board.jobs.now board.maps.now free.old met.old × Hints board.layout.counts.now pages.old hints.old }
+    requires maps_value { (mapped_tables_ok (length board.layout.counts.now) (length board.targets.jobs.now) (length board.targets.maps.now) ≡ true) × Drainable board.layout.counts.now board.layout.starts.now board.x.0 board.targets.order.now pages.old free.old × MayCarry board.layout.counts.now board.targets.order.now pages.old board.targets.jobs.now free.old board.targets.maps.now board.x.0 page.0 × (at + 2 ≤ 18446744073709551615) }
+    requires met { Met (length board.layout.counts.now) board.targets.order.now board.targets.jobs.now board.targets.maps.now free.old met.old × Hints board.layout.counts.now pages.old hints.old }
     ensures stays { get_or pages.old page.0 0 ≡ 0 → (result ≡ at) × (pages.new ≡ pages.old) × (free.new ≡ free.old) × (out.new ≡ out.old) }
-    ensures moves { let b = board.entry in 0 < get_or pages.old page.0 0 → (k : ℕ) → goal_by (length b.layout.counts.now) b.order.now b.jobs.now b.maps.now free.old (get_or pages.old page.0 0 - 1) ≡ some k → (result ≡ at + 2) × (pages.new ≡ after_writes pages.old (move_writes (move_by b.layout.counts.now pages.old page.0 k (get_or pages.old page.0 0)))) × (free.new ≡ after_move b.x.0 free.old k) × (at + 2 ≤ length out.old → out.new ≡ set (set out.old at page.0) (at + 1) (move_by b.layout.counts.now pages.old page.0 k (get_or pages.old page.0 0)).new) }
-    ensures kept { let b = board.entry in Met (length b.layout.counts.now) b.order.now b.jobs.now b.maps.now free.new met.new × Hints b.layout.counts.now pages.new hints.new }
+    ensures moves { let b = board.entry in 0 < get_or pages.old page.0 0 → (k : ℕ) → goal_by (length b.layout.counts.now) b.targets.order.now b.targets.jobs.now b.targets.maps.now free.old (get_or pages.old page.0 0 - 1) ≡ some k → (result ≡ at + 2) × (pages.new ≡ after_writes pages.old (move_writes (move_by b.layout.counts.now pages.old page.0 k (get_or pages.old page.0 0)))) × (free.new ≡ after_move b.x.0 free.old k) × (at + 2 ≤ length out.old → out.new ≡ set (set out.old at page.0) (at + 1) (move_by b.layout.counts.now pages.old page.0 k (get_or pages.old page.0 0)).new) }
+    ensures kept { let b = board.entry in Met (length b.layout.counts.now) b.targets.order.now b.targets.jobs.now b.targets.maps.now free.new met.new × Hints b.layout.counts.now pages.new hints.new }
 {
     let byte = pages[page.0 as usize];
     if byte == 0 {
         return at;
     }
-    match goals::goal_of(board, free, met, byte) {
+    match goals::goal_of(board.layout.counts.len(), board.targets, free, met, byte) {
         Some(node) => {
             let new = carry(board, hints, pages, free, page, node, byte);
             put_pair(out, at, page, new);
@@ -106,9 +106,9 @@ pub fn move_all(
     free: &mut [u32],
     out: &mut [u32],
 )
-    requires maps_value { (mapped_tables_ok (length board.layout.counts.now) (length board.jobs.now) (length board.maps.now) ≡ true) × Drainable board.layout.counts.now board.layout.starts.now board.x.0 board.order.now pages.old free.old × Hints board.layout.counts.now pages.old hints.old }
-    requires by_index { (distances : List ℕ) × (vs : List Move) × (board.order.now ≡ near_others (length board.layout.counts.now) distances board.x.0) × (moves board.layout.counts.now distances board.x.0 (tables_of pages.old board.jobs.now free.old board.maps.now) (held_pages board.layout.counts.now pages.old board.x.0) ≡ accept vs) }
-    ensures moved { let b = board.entry in (distances : List ℕ) (vs : List Move) → b.order.now ≡ near_others (length b.layout.counts.now) distances b.x.0 → moves b.layout.counts.now distances b.x.0 (tables_of pages.old b.jobs.now free.old b.maps.now) (held_pages b.layout.counts.now pages.old b.x.0) ≡ accept vs → (tables_of pages.new b.jobs.now free.new b.maps.now ≡ (applied (tables_of pages.old b.jobs.now free.old b.maps.now) (accept (draining b.x.0 (tables_of pages.old b.jobs.now free.old b.maps.now) vs))).tables) × (2 * length vs ≤ length out.old → out.new ≡ pairs vs ++ drop (2 * length vs) out.old) }
+    requires maps_value { (mapped_tables_ok (length board.layout.counts.now) (length board.targets.jobs.now) (length board.targets.maps.now) ≡ true) × Drainable board.layout.counts.now board.layout.starts.now board.x.0 board.targets.order.now pages.old free.old × Hints board.layout.counts.now pages.old hints.old }
+    requires by_index { (distances : List ℕ) × (vs : List Move) × (board.targets.order.now ≡ near_others (length board.layout.counts.now) distances board.x.0) × (moves board.layout.counts.now distances board.x.0 (tables_of pages.old board.targets.jobs.now free.old board.targets.maps.now) (held_pages board.layout.counts.now pages.old board.x.0) ≡ accept vs) }
+    ensures moved { let b = board.entry in (distances : List ℕ) (vs : List Move) → b.targets.order.now ≡ near_others (length b.layout.counts.now) distances b.x.0 → moves b.layout.counts.now distances b.x.0 (tables_of pages.old b.targets.jobs.now free.old b.targets.maps.now) (held_pages b.layout.counts.now pages.old b.x.0) ≡ accept vs → (tables_of pages.new b.targets.jobs.now free.new b.targets.maps.now ≡ (applied (tables_of pages.old b.targets.jobs.now free.old b.targets.maps.now) (accept (draining b.x.0 (tables_of pages.old b.targets.jobs.now free.old b.targets.maps.now) vs))).tables) × (2 * length vs ≤ length out.old → out.new ≡ pairs vs ++ drop (2 * length vs) out.old) }
     ensures kept { let b = board.entry in Hints b.layout.counts.now pages.new hints.new }
 {
     let mut met = NONE_MET;

@@ -6,7 +6,6 @@ ghost use Rattle.placement.specs.Hints.{hint_at, lowered, hinted, Named};
 ghost use Rattle.placement.specs.declared.placed.Placed.TheVariants.{Granted};
 
 use super::placed::Placed;
-use machine::layout::Layout;
 use rules::{MOST_NODES, Page, Refusal, SysNode};
 
 // Five hints to a node: one for each colour, and one for all its pages.
@@ -53,17 +52,23 @@ fn colour_of(first: Page, page: Page) -> usize
 }
 
 // The hints after a grant: the page was the lowest free one of the job's colour; or the lowest free one, and none of that colour is free.
-fn keep_granted(layout: Layout, hints: &mut [u32; HINTS], job: usize, node: SysNode, page: Page)
-    requires { Named layout.starts.now (Ok (Granted node page)) }
-    ensures { hints.new ≡ hinted layout.entry.starts.now job hints.old (Ok (Granted node page)) }
+fn keep_granted(
+    starts: &[u32; MOST_NODES + 1],
+    hints: &mut [u32; HINTS],
+    job: usize,
+    node: SysNode,
+    page: Page,
+)
+    requires { Named starts.now (Ok (Granted node page)) }
+    ensures { hints.new ≡ hinted starts.now job hints.old (Ok (Granted node page)) }
 {
     let n = node.0 as usize;
     let own = hint_at(node, job % 4);
-    if colour_of(Page(layout.starts[n]), page) == job % 4 {
+    if colour_of(Page(starts[n]), page) == job % 4 {
         hints[own] = page.0 + 1;
     } else {
         hints[hint_at(node, ALL_PAGES)] = page.0 + 1;
-        hints[own] = layout.starts[n + 1];
+        hints[own] = starts[n + 1];
     }
 }
 
@@ -78,16 +83,21 @@ fn lower_hint(hints: &mut [u32; HINTS], at: usize, page: Page)
 }
 
 // The hints after a page is placed for a job.
-pub fn keep(layout: Layout, hints: &mut [u32; HINTS], job: usize, placed: Result<Placed, Refusal>)
-    requires { Named layout.starts.now placed }
-    ensures { hints.new ≡ hinted layout.entry.starts.now job hints.old placed }
+pub fn keep(
+    starts: &[u32; MOST_NODES + 1],
+    hints: &mut [u32; HINTS],
+    job: usize,
+    placed: Result<Placed, Refusal>,
+)
+    requires { Named starts.now placed }
+    ensures { hints.new ≡ hinted starts.now job hints.old placed }
 {
     match placed {
         Ok(Placed::Granted(node, page)) => {
-            keep_granted(layout, hints, job, node, page);
+            keep_granted(starts, hints, job, node, page);
         }
         Ok(Placed::Released(node, page)) => {
-            let colour = colour_of(Page(layout.starts[node.0 as usize]), page);
+            let colour = colour_of(Page(starts[node.0 as usize]), page);
             lower_hint(hints, hint_at(node, ALL_PAGES), page);
             lower_hint(hints, hint_at(node, colour), page);
         }

@@ -127,7 +127,8 @@ impl Mode {
             Mode::Interleave(flag, user, effective, cursor) => {
                 Mode::Interleave(flag, user, flag.rebound(user, effective, old, new), cursor)
             }
-            Mode::Default | Mode::List(_) | Mode::Ring(_, _) | Mode::Early(_, _) => self,
+            Mode::Default | Mode::List(_) | Mode::Early(_, _) => self,
+            Mode::Ring(len, cursor) => Mode::Ring(len, cursor),
         }
     }
 }

@@ -12,11 +12,11 @@ pub loop-byte-init : goal.loop-byte-init
 loop-byte-init c = (c.requires.1, none_met _ _ _ _ _, omega arith, refl)
 
 -- what is known after one page
-after : (c : After-pass) → AfterPage (length c.args.board.layout.counts.now) c.args.board.order.now c.args.board.jobs.now c.args.board.maps.now
+after : (c : After-pass) → AfterPage (length c.args.board.layout.counts.now) c.args.board.targets.order.now c.args.board.targets.jobs.now c.args.board.targets.maps.now
     c.args.board.x.0 c.args.part.now c.loop-byte.byte-index c.loop-byte.free c.pass.new.free c.pass.result
 after c = let b = c.args.board in
     let e = c.pass.ensures in
-    after_page (length b.layout.counts.now) b.order.now b.jobs.now b.maps.now b.x.0 c.args.part.now c.loop-byte.byte-index c.loop-byte.free _ c.pass.result
+    after_page (length b.layout.counts.now) b.targets.order.now b.targets.jobs.now b.targets.maps.now b.x.0 c.args.part.now c.loop-byte.byte-index c.loop-byte.free _ c.pass.result
     c.loop-byte-test.true c.loop-byte.invariant.0 e.stays e.stuck e.goes
 
 pub returns-then-not-pass : goal.returns-then-not-pass
@@ -30,5 +30,5 @@ loop-byte-preserved c = let w = after (goal.at.loop-byte-preserved c).After-pass
 
 pub returns : goal.returns
 returns c = let b = c.args.board in
-    sym (pass_end (length b.layout.counts.now) b.order.now b.jobs.now b.maps.now b.x.0 c.args.part.now c.loop-byte.byte-index c.loop-byte.free
+    sym (pass_end (length b.layout.counts.now) b.targets.order.now b.targets.jobs.now b.targets.maps.now b.x.0 c.args.part.now c.loop-byte.byte-index c.loop-byte.free
     c.loop-byte-test.false) ∙ c.loop-byte.invariant.3

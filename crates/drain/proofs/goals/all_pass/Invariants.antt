@@ -8,8 +8,8 @@ use Rattle.drain.proofs.goals.all_pass.Given as goal
 
 abbrev pub invariant-loop-byte : goal.invariant-loop-byte
 invariant-loop-byte l = let b = l.board in
-    Ordered (length b.layout.counts.now) b.x.0 b.order.now l.free
-    × Met (length b.layout.counts.now) b.order.now b.jobs.now b.maps.now l.free l.met
+    Ordered (length b.layout.counts.now) b.x.0 b.targets.order.now l.free
+    × Met (length b.layout.counts.now) b.targets.order.now b.targets.jobs.now b.targets.maps.now l.free l.met
     × (get_or l.free b.x.0 0 ≤ get_or l.initial.free b.x.0 0 + l.byte-index)
-    × (passes (length b.layout.counts.now) b.order.now b.jobs.now b.maps.now b.x.0 l.free (drop l.byte-index l.part)
-    ≡ passes (length b.layout.counts.now) b.order.now b.jobs.now b.maps.now b.x.0 l.initial.free l.part)
+    × (passes (length b.layout.counts.now) b.targets.order.now b.targets.jobs.now b.targets.maps.now b.x.0 l.free (drop l.byte-index l.part)
+    ≡ passes (length b.layout.counts.now) b.targets.order.now b.targets.jobs.now b.targets.maps.now b.x.0 l.initial.free l.part)

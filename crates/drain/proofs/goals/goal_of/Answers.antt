@@ -12,16 +12,16 @@ returns-in_err-job-clause-goes c = rw (c.from_residual.ensures, c.in_err-job.ens
 
 -- no node is open
 pub returns-in_err-at-clause-goes : goal.returns-in_err-at-clause-goes
-returns-in_err-at-clause-goes c = let job = c.in_ok-job.ensures c.args.board.order.now c.args.free.now c.requires.3 in
+returns-in_err-at-clause-goes c = let job = c.in_ok-job.ensures c.args.targets.order.now c.args.free.now c.requires.3 in
     rw c.from_residual-in_err-at.ensures (goal_none job c.in_err-at.ensures)
 
 -- one is
 pub returns-clause-goes : goal.returns-clause-goes
-returns-clause-goes c = let job = c.in_ok-job.ensures c.args.board.order.now c.args.free.now c.requires.3 in
+returns-clause-goes c = let job = c.in_ok-job.ensures c.args.targets.order.now c.args.free.now c.requires.3 in
     let at = c.in_ok-at.ensures in
     goal_some job at.2 at.1 at.3
 
 pub returns-clause-kept : goal.returns-clause-kept
-returns-clause-kept c = let job = c.in_ok-job.ensures c.args.board.order.now c.args.free.now c.requires.3 in
+returns-clause-kept c = let job = c.in_ok-job.ensures c.args.targets.order.now c.args.free.now c.requires.3 in
     let at = c.in_ok-at.ensures in
     met_on (search rules) c.requires.3 (kept_on job at.2 at.1)

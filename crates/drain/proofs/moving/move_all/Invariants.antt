@@ -9,6 +9,6 @@ use Rattle.drain.proofs.moving.move_all.Given as goal
 
 abbrev pub invariant-loop-page : goal.invariant-loop-page
 invariant-loop-page l = let b = l.board in
-    Gone b.layout.counts.now b.order.now b.x.0 (tables_of l.initial.pages b.jobs.now l.initial.free b.maps.now) l.initial.out l.page
-    (tables_of l.pages b.jobs.now l.free b.maps.now) l.at l.out
-    × Met (length b.layout.counts.now) b.order.now b.jobs.now b.maps.now l.free l.met × Hints b.layout.counts.now l.pages l.hints
+    Gone b.layout.counts.now b.targets.order.now b.x.0 (tables_of l.initial.pages b.targets.jobs.now l.initial.free b.targets.maps.now) l.initial.out l.page
+    (tables_of l.pages b.targets.jobs.now l.free b.targets.maps.now) l.at l.out
+    × Met (length b.layout.counts.now) b.targets.order.now b.targets.jobs.now b.targets.maps.now l.free l.met × Hints b.layout.counts.now l.pages l.hints

@@ -17,7 +17,7 @@ bounds-pages-page c = let page : PageOf c.args.board.layout.counts.now c.args.bo
 pub carry-new-requires : goal.carry-new-requires
 carry-new-requires c = let held : 0 < get_or c.args.pages.now c.args.page.0 0 = omega (arith, c.if-byte-eq0.false) in
     let page = c.requires.maps_value.2 in (
-      goal_carries c.requires.maps_value.1 c.args.board.jobs.now c.args.board.maps.now c.args.page.0 c.in-Some.node.0
+      goal_carries c.requires.maps_value.1 c.args.board.targets.jobs.now c.args.board.targets.maps.now c.args.page.0 c.in-Some.node.0
           (get_or c.args.pages.now c.args.page.0 0) c.requires.maps_value.0 page.start page.end held (sym c.in-Some.ensures.goes),
       c.requires.met.1,
     )

@@ -12,6 +12,9 @@ returns-in-Default c ps =
     elim c.in-Default.is [
       | inl e ↦ rw (e, remapped_none)
       | inr (inl (_, e)) ↦ rw (e, remapped_none)
-      | inr (inr (inl (_, _, e))) ↦ rw (e, remapped_none)
-      | inr (inr (inr (_, _, e))) ↦ rw (e, remapped_none)
+      | inr (inr (_, _, e)) ↦ rw (e, remapped_none)
     ]
+
+pub returns-in-Ring : goal.returns-in-Ring
+unfolding record_with rebound effective_at_rebind
+returns-in-Ring c ps = rw (c.in-Ring.is, remapped_none)
