@@ -58,6 +58,7 @@ fn holder_of(nodes: usize, jobs: &[u64], maps: &[u8], byte: u8) -> Option<Mask>
         return None;
     }
     let map = judging::judge(nodes, turning::of_job(maps, job))?;
+    // `.ok()?` was tried here, and the proof didn't close.
     match placement::admit_mapped(nodes, 1, jobs, map.set, job, 0) {
         Ok(admitted) => Some(admitted.limit),
         Err(_) => None,

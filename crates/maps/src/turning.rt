@@ -17,7 +17,8 @@ pub fn of_job(maps: &[u8], job: usize) -> &[u8]
     &maps[start..end]
 }
 
-// "answers back": the application number of a node; FF where it is outside the map.
+// "answers back": the application number of a node; FF where it is outside the map, and no `Option`: FF is the rules' own answer
+// (`application_node`).
 pub fn named(bytes: &[u8], node: SysNode) -> AppNode
     requires { length bytes.now ≡ map_size }
     ensures { result.0 ≡ application_node (nodes_in bytes.now) node.0 }

@@ -11,7 +11,7 @@ use rules::{MOST_NODES, Page, Refusal, SysNode};
 // Five hints to a node: one for each colour, and one for all its pages.
 pub const HINTS: usize = 5 * MOST_NODES;
 
-// The colour that stands for all pages.
+// The colour that stands for all pages, and no `Option`: hints stand five to a node, and the fifth is for all of its pages.
 pub const ALL_PAGES: usize = 4;
 
 // Where a node's hint for a colour stands.
@@ -31,14 +31,7 @@ pub fn search_from(hints: &[u32], at: usize, least: Page, most: Page) -> Page
     if at >= hints.len() {
         return least;
     }
-    let hint = Page(hints[at]);
-    if hint < least {
-        return least;
-    }
-    if most < hint {
-        return most;
-    }
-    hint
+    Page(hints[at]).clamp(least, most)
 }
 
 // ---- the hints after a call
@@ -77,9 +70,7 @@ fn lower_hint(hints: &mut [u32; HINTS], at: usize, page: Page)
     requires { at < 5 * most_nodes }
     ensures { hints.new ≡ lowered hints.old at page.0 }
 {
-    if page < Page(hints[at]) {
-        hints[at] = page.0;
-    }
+    hints[at] = hints[at].min(page.0);
 }
 
 // The hints after a page is placed for a job.

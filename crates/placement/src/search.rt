@@ -47,7 +47,7 @@ fn search_near(free: &[u32], distances: &[u8], set: Mask, x: SysNode, cursor: u8
 
 // ---- by places
 
-// The place at a position of a list, which starts again at its end.
+// The place at a position of a list, which starts again at its end. By a test, and not by `%`: no division for each place that is tried.
 fn place_at(position: u8, len: u8) -> Place
     requires { (0 < len) × (position ≤ len) }
     ensures { result.0 ≡ position % len }

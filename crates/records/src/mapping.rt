@@ -57,8 +57,8 @@ pub fn keep_nodes(nodes: usize, jobs: &[u64], maps: &mut [u8], job: usize, kept:
     keep_at(nodes, jobs, maps, job, kept)
 }
 
-// The administrator's call: the nodes of a job's map. As `keep_nodes` but for the call at its end, for which one function would take a
-// closure, and be no plainer.
+// The administrator's call: the nodes of a job's map. It differs from `keep_nodes` in the one call at its end and the law of that, `on_set_map`
+// for `on_keep`: one function would take a closure and its law, and be no plainer.
 pub fn set_map(nodes: usize, jobs: &[u64], maps: &mut [u8], job: usize, list: &[u8]) -> Answer
     ensures { (t : Tables) → outcome (answer_of result) (with_jobs t jobs.now maps.new) ≡ on_set_map nodes (with_jobs t jobs.now maps.old) job list.now }
 {

@@ -16,7 +16,7 @@ use rules;
 use rules::PLACES_PER_JOB;
 
 // The policy that a job asks for, in its own numbers: a mask of application nodes, or of ranks where it is relative, and `len` places, of
-// which `places` has the first, and zeros past their end.
+// which `places` has the first, and zeros past their end. Mode and flag are numbers: what is handed in may be any, and is refused 5.
 #[derive(Clone, Copy)]
 pub struct AppPolicy {
     pub mode: u64,
@@ -26,7 +26,8 @@ pub struct AppPolicy {
     pub places: [u8; PLACES_PER_JOB],
 }
 
-// The same in system nodes.
+// The same in system nodes: a type of its own, since a rule has application and system nodes of different kinds in the code. Mode and flag are
+// numbers here too, those that were asked for: `Stands`, and what `Record::installed` stores, speak of them.
 #[derive(Clone, Copy)]
 pub struct Policy {
     pub mode: u64,

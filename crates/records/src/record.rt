@@ -11,7 +11,7 @@ use super::words;
 use nodemask::Mask;
 use rules::{PLACES_PER_JOB, Place};
 
-// What a mode carries.
+// What a mode carries. With `Unknown`, as the rules' own table has it (`row_of`): an `Option` would be no plainer in a `Row`.
 #[derive(Clone, Copy)]
 pub enum Carries {
     Nothing,
@@ -20,7 +20,7 @@ pub enum Carries {
     Unknown,
 }
 
-// What a mode's cursor is.
+// What a mode's cursor is. With `NoCursor`, as the rules' own table has it (`row_of`), so that a row of it reads as there.
 #[derive(Clone, Copy)]
 pub enum Cursor {
     NoCursor,
@@ -51,6 +51,7 @@ impl Row {
 }
 
 // The fields of a job's words; `rest` is what word 0 holds above the cursor, `low` and `high` are words 4 and 5, sixteen places.
+// Mode and flag are numbers: what is stored may be any, and a record with one that there is not is refused 4.
 #[derive(Clone, Copy)]
 pub struct Record {
     pub mode: u8,
@@ -125,8 +126,8 @@ impl Record {
         } = self;
         match self.flag {
             0 => user.below(nodes) & !effective.is_empty() & effective.within(self.allowed),
-            1 => user.below(nodes) & (effective.0 == user.both(self.allowed).0),
-            2 => effective.0 == user.folded(self.allowed).0,
+            1 => user.below(nodes) & (effective == user.both(self.allowed)),
+            2 => effective == user.folded(self.allowed),
             _ => false,
         }
     }

@@ -2,11 +2,9 @@
 -- Assumes nothing.
 use mathlib.Core.Bool.{true, not, ◌&&◌}
 use mathlib.Core.Path.{◌≡◌, sym, ap, ◌∙◌}
-use borrow.Author.Rules.{rules}
 use lib.Dec.{eqb}
 use Rattle.rules.specs.Records.{rebound}
 use Rattle.rules.specs.Calls.{is_job, rebind_fits, after_writes, after_stores, after_remaps, applied, rebind_decision, on_rebind}
-use Rattle.rules.proofs.WellFormed.{some_pos}
 use Rattle.records.specs.Jobs.{record_of}
 use Rattle.records.proofs.Judged.{rebind_tests, rebind_judged}
 use Rattle.records.proofs.rebind_at.Goals as goal

@@ -15,8 +15,9 @@ loop-byte-init c = (c.requires.1, none_met _ _ _ _ _, omega arith, refl)
 after : (c : After-pass) → AfterPage (length c.args.board.layout.counts.now) c.args.board.targets.order.now c.args.board.targets.jobs.now c.args.board.targets.maps.now
     c.args.board.x.0 c.args.part.now c.loop-byte.byte-index c.loop-byte.free c.pass.new.free c.pass.result
 after c = let b = c.args.board in
+    let t = b.targets in
     let e = c.pass.ensures in
-    after_page (length b.layout.counts.now) b.targets.order.now b.targets.jobs.now b.targets.maps.now b.x.0 c.args.part.now c.loop-byte.byte-index c.loop-byte.free _ c.pass.result
+    after_page (length b.layout.counts.now) t.order.now t.jobs.now t.maps.now b.x.0 c.args.part.now c.loop-byte.byte-index c.loop-byte.free _ c.pass.result
     c.loop-byte-test.true c.loop-byte.invariant.0 e.stays e.stuck e.goes
 
 pub returns-then-not-pass : goal.returns-then-not-pass

@@ -10,7 +10,8 @@ use Rattle.drain.proofs.goals.pass.Goals as goal
 pub count_move-requires : goal.count_move-requires
 count_move-requires c = let o = c.requires.1 in
     let b = c.args.board in
-    let g = goal_is_lem (length b.layout.counts.now) b.x.0 b.targets.order.now b.targets.jobs.now b.targets.maps.now c.args.free.now (c.args.byte - 1) c.in-Some.node.0 o
+    let t = b.targets in
+    let g = goal_is_lem (length b.layout.counts.now) b.x.0 t.order.now t.jobs.now t.maps.now c.args.free.now (c.args.byte - 1) c.in-Some.node.0 o
     (sym c.in-Some.ensures.goes) in
     (omega (arith, o.one_each, o.node), omega (arith, o.one_each, g.node), g.other, g.above, c.requires.3)
 

@@ -4,7 +4,6 @@ use mathlib.Core.Bool.{true}
 use mathlib.Core.Path.{◌≡◌, sym, ◌∙◌}
 use lib.ListN.{length}
 use Prim.Native.Nat.{◌+◌, ◌*◌, ◌≤◌}
-use borrow.Author.Rules.{rules}
 use Rattle.rules.specs.Maps.{map_size, put_map}
 use Rattle.rules.specs.Calls.{is_job, map_of, is_mapped, after_writes, after_stores, after_remaps, applied, keep_decision, on_keep}
 use Rattle.rules.proofs.InOrder.{mapped_map}

@@ -3,7 +3,6 @@
 use mathlib.Core.Bool.{true}
 use mathlib.Core.Path.{◌≡◌, sym, ◌∙◌}
 use lib.ListN.{length}
-use borrow.Author.Rules.{rules}
 use Rattle.rules.specs.Maps.{put_map}
 use Rattle.rules.specs.Calls.{is_job, after_writes, after_stores, after_remaps, applied, set_map_decision, on_set_map}
 use Rattle.rules.proofs.InOrder.{mapped_map}

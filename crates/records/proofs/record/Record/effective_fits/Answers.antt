@@ -11,11 +11,11 @@ returns-in-0 c = rw (c.in-0.is, c.below.ensures, c.is_empty.ensures, c.within.en
 
 pub returns-in-1 : goal.returns-in-1
 unfolding effective_fits record_of
-returns-in-1 c = rw (c.in-1.is, c.below-in-1.ensures, c.both.ensures)
+returns-in-1 c = rw (c.in-1.is, c.below-in-1.ensures, c.eq.ensures, c.both.ensures)
 
 pub returns-in-2 : goal.returns-in-2
 unfolding effective_fits record_of
-returns-in-2 c = rw (c.in-2.is, c.folded.ensures)
+returns-in-2 c = rw (c.in-2.is, c.eq-in-2.ensures, c.folded.ensures)
 
 pub returns-in_default : goal.returns-in_default
 unfolding effective_fits record_of
