@@ -71,7 +71,7 @@ fn explain(
     }
     let plan = Plan::of(layout.counts.len(), limit, decoded, x);
     let places = decoded.places;
-    let named = reach::named(places, loaded.len);
+    let named = reach::named(&places[..loaded.len as usize]);
     let reach = reach::reach_of(layout.counts.len(), distances, limit, plan, named);
     reason::put_reasons(free, limit, reach, chosen, out);
     Ok(layout.counts.len() as u64)

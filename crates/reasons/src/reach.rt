@@ -1,17 +1,16 @@
 // The nodes that a search may come to: those of its set that it reaches or that its places name.
 
-ghost use Rattle.std.specs.Prelude.{not, ◌≡◌, ℕ, ◌*◌, ◌≤◌, ◌<◌, length, take};
+ghost use Rattle.std.specs.Prelude.{not, ◌≡◌, ℕ, ◌*◌, ◌≤◌, ◌<◌, length};
 ghost use Rattle.rules.specs.Maps.{set_of};
 ghost use Rattle.rules.specs.Masks.{most_nodes, mask_of};
 ghost use Rattle.rules.specs.Reasons.{is_far};
-ghost use Rattle.rules.specs.Records.{places_per_job};
 ghost use Rattle.placement.specs.Plans.{Inside};
 ghost use Rattle.reasons.specs.Reasons.{Reaches};
 
 use super::reason::Reason;
 use nodemask::Mask;
 use placement::plan::Plan;
-use rules::{MOST_NODES, PLACES_PER_JOB, SysNode};
+use rules::{MOST_NODES, SysNode};
 
 // "255 for unreachable"
 const UNREACHABLE: u8 = 255;
@@ -24,13 +23,12 @@ pub struct Reach {
     pub missed: Reason,
 }
 
-// The nodes that the first places name.
-pub fn named(places: [u8; PLACES_PER_JOB], len: u8) -> Mask
-    requires { len ≤ places_per_job }
-    ensures { result.0 ≡ set_of (take len places) }
+// The nodes that these places name.
+pub fn named(places: &[u8]) -> Mask
+    ensures { result.0 ≡ set_of places.now }
 {
     let mut set = Mask::EMPTY;
-    for node in &places[..len as usize] {
+    for node in places {
         if (*node as usize) < MOST_NODES {
             set = set.insert(SysNode(*node));
         }
@@ -45,8 +43,8 @@ fn reachable(n: usize, distances: &[u8], x: SysNode) -> Mask
 {
     let start = x.0 as usize * n;
     let mut set = Mask::EMPTY;
-    for i in 0..n {
-        if distances[start + i] != UNREACHABLE {
+    for (i, distance) in distances[start..start + n].iter().enumerate() {
+        if *distance != UNREACHABLE {
             set = set.insert(SysNode(i as u8));
         }
     }

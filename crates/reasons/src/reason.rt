@@ -41,7 +41,7 @@ impl From<Reason> for u8 {
     }
 }
 
-// Is the node the one that is chosen?
+// Is the node the one that is chosen? By `is_some_and`, and by `==` of what `map` gives, it was tried, and the proof didn't close.
 fn is_chosen(chosen: Option<Chosen>, node: SysNode) -> bool
     ensures { result ≡ is_chosen (chosen_by chosen) node.0 }
 {

@@ -1,10 +1,12 @@
 -- `explain` meets its contract: the search of the job's order, 14, and the reasons by what its plan comes to.
 -- Assumes nothing.
-use Prim.Native.Nat.{ℕ, ◌^◌, ◌<◌}
+use Prim.Native.Nat.{ℕ, ◌^◌, ◌≤◌, ◌<◌}
 use mathlib.Core.Path.{◌≡◌, refl, sym, ap, subst, ◌∙◌}
 use mathlib.Core.List.{List, ◌++◌, map}
 use mathlib.Core.Option.{Option}
 use native.Mathlib.Omega.{arith}
+use borrow.Author.Rules.{rules}
+use Rattle.std.proofs.lemmas.List.{length-take}
 use lib.ListN.{length, take, drop}
 use Rattle.rules.specs.Basics.{from}
 use Rattle.rules.specs.Masks.{most_nodes}
@@ -70,10 +72,20 @@ returns-then-not-meets_room c =
 
 -- ---- the reasons
 
-pub named-named-requires : goal.named-named-requires
+-- the places of the list are some of the sixteen
+few : (c : After-search-chosen) → c.args.loaded.len ≤ places_per_job
 unfolding record_of
-named-named-requires c = let at = (goal.at.named-named-requires c).After-search-chosen in
-    few_listed (nodes at) (job at) (formed (nodes at) (job at) (plannable at).formed)
+few c = few_listed (nodes c) (job c) (formed (nodes c) (job c) (plannable c).formed)
+
+pub slice_bounds-places-end : goal.slice_bounds-places-end
+slice_bounds-places-end c = omega (arith, few (goal.at.slice_bounds-places-end c).After-search-chosen)
+
+-- and as many as the length says
+all_there : (n : ℕ) (places : List ℕ) → length places ≡ 16 → n ≤ 16 → n ≡ length (take n places)
+all_there n places e l = omega (arith, length-take n places, e, l)
+
+pub slice_bounds-named-end : goal.slice_bounds-named-end
+slice_bounds-named-end c = all_there _ _ (search rules) (omega (arith, few (goal.at.slice_bounds-named-end c).After-search-chosen))
 
 pub reach_of-reach-requires : goal.reach_of-reach-requires
 reach_of-reach-requires c = let square = (distances_in_order _ c.args.distances.now c.requires.0.searchable.table).square in

@@ -22,7 +22,7 @@ pub loop-node-init : goal.loop-node-init
 loop-node-init c = set_none
 
 pub loop-node-preserved : goal.loop-node-preserved
-loop-node-preserved c = let listed : List ℕ = take c.args.len c.args.places in
+loop-node-preserved c = let listed : List ℕ = c.args.places.now in
     step listed c.loop-node.node-index c.loop-node-test.true
     (elim c.if-node-lt-MOST_NODES.branch [
       | then-node-lt-MOST_NODES w ↦ ap (λ (m : Mask). m.0) w.set-is ∙ w.insert-set.ensures ∙ ap

@@ -6,4 +6,4 @@ use Rattle.rules.specs.Maps.{set_of}
 use Rattle.reasons.proofs.reach.named.Given as goal
 
 abbrev pub invariant-loop-node : goal.invariant-loop-node
-invariant-loop-node l = l.set.0 ≡ set_of (take l.node-index l.node-items)
+invariant-loop-node l = l.set.0 ≡ set_of (take l.node-index l.places)
