@@ -13,7 +13,8 @@ use Rattle.drain.proofs.drain_by.Goals as goal
 
 pub returns-then-not-all_go : goal.returns-then-not-all_go
 returns-then-not-all_go c = let tables : Tables = tables_of c.args.pages.now c.args.board.targets.jobs.now c.args.free.now c.args.board.targets.maps.now in
-    let IsOrder : List ℕ → Type 0 = λ distances. c.args.board.targets.order.now ≡ near_others (length c.args.board.layout.counts.now) distances c.args.board.x.0 in
+    let b = c.args.board in
+    let IsOrder : List ℕ → Type 0 = λ distances. b.targets.order.now ≡ near_others (length b.layout.counts.now) distances b.x.0 in
     let is-17 = λ (distances : List ℕ) (e : IsOrder distances).
     within_17 tables c.requires.maps_value.1 distances c.args.room (c.all_go.ensures distances e) c.if-not-all_go.true in
     record {
@@ -25,7 +26,8 @@ returns-then-not-all_go c = let tables : Tables = tables_of c.args.pages.now c.a
 
 pub returns-then-room-moves : goal.returns-then-room-moves
 returns-then-room-moves c = let tables : Tables = tables_of c.args.pages.now c.args.board.targets.jobs.now c.args.free.now c.args.board.targets.maps.now in
-    let IsOrder : List ℕ → Type 0 = λ distances. c.args.board.targets.order.now ≡ near_others (length c.args.board.layout.counts.now) distances c.args.board.x.0 in
+    let b = c.args.board in
+    let IsOrder : List ℕ → Type 0 = λ distances. b.targets.order.now ≡ near_others (length b.layout.counts.now) distances b.x.0 in
     let is-11 = λ (distances : List ℕ) (e : IsOrder distances).
     within_11 tables c.requires.maps_value.1 distances c.args.room (c.all_go.ensures distances e) c.if-not-all_go.false
     c.if-room-moves.true in
@@ -38,7 +40,8 @@ returns-then-room-moves c = let tables : Tables = tables_of c.args.pages.now c.a
 
 pub returns : goal.returns
 returns c = let tables : Tables = tables_of c.args.pages.now c.args.board.targets.jobs.now c.args.free.now c.args.board.targets.maps.now in
-    let IsOrder : List ℕ → Type 0 = λ distances. c.args.board.targets.order.now ≡ near_others (length c.args.board.layout.counts.now) distances c.args.board.x.0 in
+    let b = c.args.board in
+    let IsOrder : List ℕ → Type 0 = λ distances. b.targets.order.now ≡ near_others (length b.layout.counts.now) distances b.x.0 in
     let all = λ (distances : List ℕ) (e : IsOrder distances).
     all_moved tables c.requires.maps_value.1 distances c.args.room (c.all_go.ensures distances e) c.if-not-all_go.false in
     let is-ok = λ (distances : List ℕ) (e : IsOrder distances).

@@ -29,8 +29,8 @@ returns c distances e = let d = c.requires.1 in
     let went = goes_from b.layout.counts.now distances b.x.0 tables d.paged.few d.ordered.node d.paged.fits bytes
     (part_long d.paged b.x.0 d.ordered.node) (part_byte d.paged b.x.0 d.ordered.node) (get_or b.layout.counts.now b.x.0 0) 0 tables [] (omega arith)
     (start_reached b.layout.counts.now distances b.x.0 tables d.matches) in
-    let passed : c.all_pass.result ≡ passes n (near_others n distances b.x.0) b.targets.jobs.now b.targets.maps.now b.x.0 c.args.free.now bytes = c.all_pass.ensures
-    ∙ ap₂ (λ (o f : List ℕ). passes n o b.targets.jobs.now b.targets.maps.now b.x.0 f bytes) e c.copy_from_slice.ensures.after in
+    let passed : c.all_pass.result ≡ passes n (near_others n distances b.x.0) b.targets.jobs.now b.targets.maps.now b.x.0 c.args.free.now bytes =
+    c.all_pass.ensures ∙ ap₂ (λ (o f : List ℕ). passes n o b.targets.jobs.now b.targets.maps.now b.x.0 f bytes) e c.copy_from_slice.ensures.after in
     rw passed went
 
 pub slice_bounds-all_pass-count : goal.slice_bounds-all_pass-count

@@ -12,7 +12,8 @@ pub loop-byte-init : goal.loop-byte-init
 loop-byte-init c = (c.requires.1, none_met _ _ _ _ _, omega arith, refl)
 
 -- what is known after one page
-after : (c : After-pass) → AfterPage (length c.args.board.layout.counts.now) c.args.board.targets.order.now c.args.board.targets.jobs.now c.args.board.targets.maps.now
+after : (c : After-pass) → AfterPage (length c.args.board.layout.counts.now) c.args.board.targets.order.now c.args.board.targets.jobs.now
+    c.args.board.targets.maps.now
     c.args.board.x.0 c.args.part.now c.loop-byte.byte-index c.loop-byte.free c.pass.new.free c.pass.result
 after c = let b = c.args.board in
     let t = b.targets in
@@ -31,5 +32,6 @@ loop-byte-preserved c = let w = after (goal.at.loop-byte-preserved c).After-pass
 
 pub returns : goal.returns
 returns c = let b = c.args.board in
-    sym (pass_end (length b.layout.counts.now) b.targets.order.now b.targets.jobs.now b.targets.maps.now b.x.0 c.args.part.now c.loop-byte.byte-index c.loop-byte.free
+    let t = b.targets in
+    sym (pass_end (length b.layout.counts.now) t.order.now t.jobs.now t.maps.now b.x.0 c.args.part.now c.loop-byte.byte-index c.loop-byte.free
     c.loop-byte-test.false) ∙ c.loop-byte.invariant.3
