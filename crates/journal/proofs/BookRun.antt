@@ -98,9 +98,6 @@ pub record Counted (input : List ℕ) (size at : ℕ) : Type 0 where
   pub small : size + size ≤ at
   pub rest : (m : Machine) (t : Tables) → size + length (run_of m t (drop at input)) ≡ length (run_of m t input)
 
-pub counted_none : (input : List ℕ) → Counted input 0 0
-counted_none input = record { within = omega arith; small = omega arith; rest = λ m t. omega arith }
-
 module _ {input : List ℕ} {size at : ℕ} (done : Counted input size at) where
   -- an answer for each good record
   pub counted_next : {e : Entry} → read_record (drop at input) ≡ accept e → Counted input (size + answer_size) (at + e.size)

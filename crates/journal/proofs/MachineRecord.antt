@@ -38,10 +38,6 @@ pub nodes_most_lem : (bs : List ℕ) → counts_ok bs ≡ true → byte_at bs 3 
 unfolding counts_ok
 nodes_most_lem bs h = leb-true (byte_at bs 3) 16 (both_true {a = leb 1 (byte_at bs 3)} (both_true {a = between 1 16 (byte_at bs 3)} h).0).1
 
--- N x N distances are few
-pub square_most : (n : ℕ) → n < 256 → n * n ≤ 65025
-square_most n h = mul-le-mul {n₂ = 255} {m₂ = 255} (omega arith) (omega arith)
-
 -- "N 16-bit page counts": count i
 abbrev pub count_at : List ℕ → ℕ → ℕ
 count_at bs i = number (head_size + 2 * i) 2 bs

@@ -29,6 +29,9 @@ pub fn part<const N: usize>(bytes: &[u8], at: usize) -> [u8; N]
     part
 }
 
+// The numbers of 16, 32 and 64 bits at a place stay three: no trait names `from_le_bytes` for all types, and one of our own with three
+// `impl`s is no plainer.
+
 // The 16-bit number at a place.
 pub fn u16_at(bytes: &[u8], at: usize) -> u16
     requires { at + 2 ≤ length bytes.now }

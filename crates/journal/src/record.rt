@@ -11,6 +11,7 @@ use book::Call;
 use rules::PLACES_PER_JOB;
 
 // What is read of a good record. The places of an install are in `places_in`.
+// The kind stays a byte: `answer::line` puts it back as it came, and an enum, made of the byte and turned into it again, is no plainer.
 #[derive(Clone, Copy)]
 pub struct Entry {
     pub kind: u8,
@@ -21,7 +22,7 @@ pub struct Entry {
 // No record is shorter: "Then 32-byte records".
 pub const SHORTEST: usize = 32;
 
-// The size of a record, by the number of its kind.
+// The size of a record, by the number of its kind. The rules' `size_of` has that argument too and gives each kind 32: the clause names it.
 fn size_of(kind: u8) -> usize
     ensures { result ≡ size_of (kind_of kind) }
 {
@@ -39,7 +40,7 @@ pub fn whole(bytes: &[u8]) -> bool
     size_of(bytes[2]) <= bytes.len()
 }
 
-// Of the eight bytes at a place, those from k on are zero.
+// Of the eight bytes at a place, those from k on are zero: by one shift, with no loop, which one over the bytes would need.
 fn zero_from(bytes: &[u8], at: usize, k: usize) -> bool
     requires { (at + 8 ≤ length bytes.now) × (k < 8) }
     ensures { result ≡ zeroed (at + k) (8 - k) bytes.now }
@@ -47,7 +48,8 @@ fn zero_from(bytes: &[u8], at: usize, k: usize) -> bool
     u64_at(bytes, at) >> (8 * k) == 0
 }
 
-// The places from len on are zero.
+// The places from len on are zero: two numbers of eight bytes and no loop. An `all` over the bytes from there needs a cut at 16 first, and
+// is no plainer.
 fn places_zero(bytes: &[u8], len: usize) -> bool
     requires { 32 ≤ length bytes.now }
     ensures { result ≡ zeroed (16 + len) (16 - len) bytes.now }

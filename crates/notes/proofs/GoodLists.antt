@@ -90,6 +90,11 @@ long_table n table l = fails (λ e. omega (arith, (parts e).0, (parts e).1, (par
 pub list_long : (list : List ℕ) → 256 < length list → list_ok list ≡ false
 list_long list l = fails (λ e. omega (arith, list_short list e))
 
+-- so its count is 17, over which no list has that many names
+pub long_count : (list : List ℕ) → 256 < length list → name_count list ≡ 17
+unfolding name_count
+long_count list l = rw (list_long list l)
+
 pub good_count : (list : List ℕ) → list_ok list ≡ true → name_count list ≡ length (strings list)
 unfolding name_count
 good_count list e = rw e

@@ -32,6 +32,12 @@ module _ (names : List (List ℕ)) (nodes note : List ℕ) (which : ℕ) (out : 
   unfolding note_tests
   note_turned e = rw e
 
+-- two numbers that are both 0 or both another turn the same list
+pub same_list : (names : List (List ℕ)) (nodes note : List ℕ) (k which : ℕ) (out : List ℕ) → eqb k 0 ≡ eqb which 0
+    → note_tests names nodes note k out ≡ note_tests names nodes note which out
+unfolding note_tests list_part
+same_list names nodes note k which out e = rw e
+
 -- ---- from 1 on
 
 module _ (n : ℕ) (records maps table note : List ℕ) (j which : ℕ) (out : List ℕ) where

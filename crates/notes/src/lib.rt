@@ -2,11 +2,12 @@
 
 #![tactic(auto)]
 
-ghost use Rattle.std.specs.Prelude.{not, ◌≡◌, ◌+◌, ◌≤◌, length};
+ghost use Rattle.std.specs.Prelude.{not, ◌≡◌, ◌+◌, ◌≤◌, eqb, length};
 ghost use Rattle.rules.specs.Answers.{decision_of, part_of};
 ghost use Rattle.rules.specs.Basics.{is_nil};
 ghost use Rattle.rules.specs.Decisions.{wrote};
 ghost use Rattle.rules.specs.Notes.{has_name, in_part, name_part, note_places, write_note};
+ghost use Rattle.notes.specs.Lists.{number_of};
 
 use maps::{judging, turning};
 use reader::HEAD_BYTES;
@@ -18,6 +19,25 @@ mod names;
 mod places;
 mod reader;
 mod writer;
+
+// The two lists of a note.
+#[derive(Clone, Copy)]
+enum Which {
+    Text,
+    Data,
+}
+
+impl From<u64> for Which {
+    // 0 is the text list, any other number the data list.
+    fn from(which: u64) -> Which
+        ensures { eqb (number_of result) 0 ≡ eqb which 0 }
+    {
+        match which {
+            0 => Which::Text,
+            _ => Which::Data,
+        }
+    }
+}
 
 // "The k-th name, k from 0 and text before data": which part of the note it is.
 pub fn name_part(note: &[u8], k: usize) -> Part
@@ -72,7 +92,7 @@ pub fn note_places(
     let Some(_) = judging::judge(nodes, map) else {
         return Err(Refusal::BadMap);
     };
-    places::turn_note(map, names, note, which, out)
+    places::turn_note(map, names, note, Which::from(which), out)
 }
 
 // The note of a text and a data list, "each laid out like the table", put at the start of the output: its length.

@@ -66,7 +66,8 @@ fn count_names(list: &[u8]) -> Option<usize>
     let mut left = list;
     let mut n = 0;
     while let Some((word, rest)) = split_string(left) {
-        if MOST_NAMES <= n {
+        let full = MOST_NAMES <= n;
+        if full {
             return None;
         }
         let last = rest.is_empty();

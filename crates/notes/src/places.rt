@@ -7,8 +7,9 @@ ghost use Rattle.rules.specs.Maps.{nodes_in};
 ghost use Rattle.rules.specs.Notes.{most_names, places_in, strings};
 ghost use Rattle.rules.specs.Records.{places_per_job};
 ghost use Rattle.notes.specs.Steps.{Tested, found_in, found_of, note_tests};
+ghost use Rattle.notes.specs.Lists.{number_of};
 
-use super::{list, names, reader};
+use super::{Which, list, names, reader};
 use maps::turning;
 use rules::{CLOSING_PLACE, NO_NODE, PLACES_PER_JOB, Refusal, SysNode};
 
@@ -67,11 +68,11 @@ pub fn turn_note(
     map: &[u8],
     table: &[u8],
     note: &[u8],
-    which: u64,
+    which: Which,
     out: &mut [u8],
 ) -> Result<u64, Refusal>
     requires { (n : ℕ) × Tested n map.now table.now }
-    ensures { wrote (decision_of result) out.new ≡ note_tests (strings table.now) (nodes_in map.now) note.now which out.old }
+    ensures { wrote (decision_of result) out.new ≡ note_tests (strings table.now) (nodes_in map.now) note.now (number_of which) out.old }
 {
     if !reader::note_ok(note) {
         return Err(Refusal::BadNote);

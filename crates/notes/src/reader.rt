@@ -3,8 +3,9 @@
 ghost use Rattle.std.specs.Prelude.{true, ◌≡◌, ◌+◌, ◌≤◌, ◌<◌, length};
 ghost use Rattle.rules.specs.Journal.{number};
 ghost use Rattle.rules.specs.Notes.{has_name, list_part, note_ok};
+ghost use Rattle.notes.specs.Lists.{number_of};
 
-use super::list;
+use super::{Which, list};
 
 // The bytes of "the four counts".
 pub const HEAD_BYTES: usize = 16;
@@ -47,14 +48,14 @@ pub fn has_name(note: &[u8], k: usize) -> bool
     k < number(note, 0) + number(note, 8)
 }
 
-// A list of a good note: the text list for 0, else the data list.
-pub fn list_of(note: &[u8], which: u64) -> &[u8]
+// A list of a good note.
+pub fn list_of(note: &[u8], which: Which) -> &[u8]
     requires { note_ok note.now ≡ true }
-    ensures { result.now ≡ list_part note.now which }
+    ensures { result.now ≡ list_part note.now (number_of which) }
 {
     let middle = HEAD_BYTES + number(note, 4);
-    if which == 0 {
-        return &note[HEAD_BYTES..middle];
+    match which {
+        Which::Text => &note[HEAD_BYTES..middle],
+        Which::Data => &note[middle..],
     }
-    &note[middle..]
 }

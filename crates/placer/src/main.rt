@@ -30,6 +30,7 @@ fn read_opening<R: Read>(reader: &mut R, bytes: &mut [u8]) -> Result<usize, Fail
 {
     let mut done = 0;
     let mut size = 6;
+    // A proved loop has to end, which a `loop` or `while` over a stream doesn't show: it counts to a number that no run uses up.
     for _ in 0..u64::MAX {
         if done >= size {
             break;
@@ -61,6 +62,7 @@ fn answer_records<R: Read, W: Write>(
     let mut input = part::input_buffer();
     let mut output = part::answer_buffer();
     let mut kept = 0;
+    // As in `read_opening`: a proved loop has to end.
     for _ in 0..u64::MAX {
         let rest = part::answer_part(
             reader,

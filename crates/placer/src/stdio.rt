@@ -35,7 +35,7 @@ fn write_some<W: Write>(writer: &mut W, bytes: &[u8]) -> Result<usize, Failure>
     }
 }
 
-// Writes the bytes, all of them unless a write fails.
+// Writes the bytes, all of them unless a write fails. The library's own method says nothing of the bytes given where it fails; `Sent` does.
 pub fn write_all<W: Write>(writer: &mut W, bytes: &[u8]) -> Result<(), Failure>
     ensures { Sent (W.contents writer.old) (W.contents writer.new) bytes.now result }
 {

@@ -10,7 +10,7 @@ use native.Mathlib.Omega.{arith}
 use borrow.Author.Tests.{eq-eqb, ne_eqb, le-leb, lt-leb, le-ltb, lt-ltb}
 use lib.Dec.{eqb, leb, ltb}
 use lib.ListN.{length, get_or, take, drop, replicate, length-append, length-drop, length-replicate}
-use lib.Seq.{get_or-take, take_all, take-append-le, length-take-le, take-take, drop-cons, get_or-append-add, get_or-drop}
+use lib.Seq.{get_or-take, take_all, take-append-le, length-take-le, take-take, drop-cons, drop-drop, take_at, drop_at, get_or-append-add, get_or-drop}
 use Rattle.rules.specs.Basics.{all, each, from, between}
 use Rattle.rules.specs.Records.{bytes_of, places_per_job, policy}
 use Rattle.rules.specs.Decisions.{Decision, refuse, accept, is_accepted, accepted_in}
@@ -261,9 +261,14 @@ first_word words i =
     get_or-take call_words (drop (call_words * i) words) 0 0 (omega arith) ∙ get_or-drop (call_words * i) words 0 0
     ∙ ap (λ (k : ℕ). get_or words k 0) (add-zero (call_words * i))
 
--- it is whole
-pub words_whole : (words : List ℕ) (i : ℕ) → i < call_count words → length (words_of words i) ≡ call_words
-words_whole words i l = length-take-le call_words (drop (call_words * i) words) (omega (arith, length-drop (call_words * i) words))
+-- sixteen words cut off the rest are the next call
+pub call_cut : (words call rest : List ℕ) (i : ℕ) → drop (call_words * i) words ≡ call ++ rest → length call ≡ call_words
+    → (words_of words i ≡ call) × (rest ≡ drop (call_words * (i + 1)) words)
+call_cut words call rest i e l =
+    let next : call_words * i + call_words ≡ call_words * (i + 1) = omega arith in (
+      ap (take call_words) e ∙ take_at call rest call_words l,
+      sym (drop_at call rest call_words l) ∙ ap (drop call_words) (sym e) ∙ drop-drop call_words (call_words * i) words ∙ ap (λ (k : ℕ). drop k words) next,
+    )
 
 -- each call of a list that is in order is of a known kind
 pub call_ok : (words : List ℕ) (i : ℕ) → calls_ok words ≡ true → i < call_count words → is_accepted (call_in (words_of words i)) ≡ true

@@ -68,8 +68,8 @@ pub fn calls_ok(calls: &[u64]) -> bool
         return false;
     }
     let mut ok = true;
-    for i in 0..calls.len() / CALL_WORDS {
-        ok = ok & kind_of(calls[CALL_WORDS * i]).is_some();
+    for call in calls.chunks(CALL_WORDS) {
+        ok = ok & kind_of(call[0]).is_some();
     }
     ok
 }

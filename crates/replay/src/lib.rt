@@ -39,6 +39,8 @@ fn run_calls(
     let n = calls.len() / CALL_WORDS;
     let mut hints = [0u32; HINTS];
     let mut list = [0u8; MAP_BYTES];
+    // Tried as `for (i, call) in calls.chunks(CALL_WORDS).enumerate()`: that a call has its sixteen words and that i is below the answers'
+    // number stayed open.
     for i in 0..n {
         let start = CALL_WORDS * i;
         let end = start + CALL_WORDS;

@@ -9,7 +9,8 @@ use Rattle.rules.proofs.InOrder.{mapped_map}
 use Rattle.rules.proofs.Kept.{mapped_nodes}
 use Rattle.rules.proofs.Maps.{map_long}
 use Rattle.notes.specs.Steps.{note_tests}
-use Rattle.notes.proofs.Tests.{bad_tables_lem, bad_names, no_job_lem, bad_map_lem, good_map_lem}
+use Rattle.notes.specs.Lists.{number_of}
+use Rattle.notes.proofs.Tests.{same_list, bad_tables_lem, bad_names, no_job_lem, bad_map_lem, good_map_lem}
 use Rattle.notes.proofs.note_places.Goals as goal
 
 pub table_ok-requires : goal.table_ok-requires
@@ -43,7 +44,8 @@ turn_note-requires c =
 pub returns : goal.returns
 returns c =
     c.turn_note.ensures
-    ∙ ap (λ (bytes : List ℕ). note_tests (strings c.args.names.now) (nodes_in bytes) c.args.note.now c.args.which c.args.out.now) c.of_job-map.ensures
+    ∙ ap (λ (bytes : List ℕ). note_tests (strings c.args.names.now) (nodes_in bytes) c.args.note.now (number_of c.from.result) c.args.out.now) c.of_job-map.ensures
+    ∙ same_list _ _ _ _ _ _ c.from.ensures
     ∙ good_map_lem _ _ _ _ _ _ _ _ (sym c.if-not-mapped_ok.ensures) (sym c.if-not-table_ok.ensures) (sym c.if-not-has_job.ensures)
     (rw c.of_job-map.ensures at c.in-Some.ensures.0)
 

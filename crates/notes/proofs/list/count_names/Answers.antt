@@ -8,15 +8,15 @@ use Rattle.notes.proofs.list.count_names.Goals as goal
 pub loop-word-init : goal.loop-word-init
 loop-word-init c = counted_start _
 
-pub returns-then-n-ge-MOST_NAMES : goal.returns-then-n-ge-MOST_NAMES
-returns-then-n-ge-MOST_NAMES c = counted_full _ _ _ _ _ c.loop-word.invariant c.in-Some.ensures (omega (arith, c.if-n-ge-MOST_NAMES.true))
+pub returns-then-full : goal.returns-then-full
+returns-then-full c = counted_full _ _ _ _ _ c.loop-word.invariant c.in-Some.ensures (omega (arith, c.if-full.true))
 
 pub returns-then-not-name_ok : goal.returns-then-not-name_ok
 returns-then-not-name_ok c = counted_bad _ _ _ _ _ c.loop-word.invariant c.in-Some.ensures _ (sym c.is_empty-last.ensures) (sym c.if-not-name_ok.ensures)
 
 pub loop-word-preserved : goal.loop-word-preserved
 loop-word-preserved c =
-    counted_next _ _ _ _ _ c.loop-word.invariant c.in-Some.ensures (omega (arith, c.if-n-ge-MOST_NAMES.false)) _
+    counted_next _ _ _ _ _ c.loop-word.invariant c.in-Some.ensures (omega (arith, c.if-full.false)) _
     (sym c.is_empty-last.ensures) (sym c.if-not-name_ok.ensures)
 
 pub returns-then-not-is_empty : goal.returns-then-not-is_empty

@@ -6,6 +6,7 @@ use Prim.Native.Nat.{ℕ}
 use Rattle.rules.specs.Decisions.{written}
 use Rattle.rules.specs.Maps.{nodes_in}
 use Rattle.rules.specs.Notes.{strings, places_in}
+use Rattle.notes.specs.Lists.{number_of}
 use Rattle.notes.proofs.GoodLists.{good_list}
 use Rattle.notes.proofs.Tests.{note_list, bad_note, note_turned}
 use Rattle.notes.proofs.places.turn_note.Goals as goal
@@ -14,7 +15,7 @@ pub returns-then-not-note_ok : goal.returns-then-not-note_ok
 returns-then-not-note_ok c = bad_note _ _ _ _ _ (sym c.if-not-note_ok.ensures)
 
 pub turn_list-requires : goal.turn_list-requires
-turn_list-requires c = (c.requires, rw c.list_of-list.ensures (good_list _ (note_list _ c.args.which (sym c.if-not-note_ok.ensures))).most)
+turn_list-requires c = (c.requires, rw c.list_of-list.ensures (good_list _ (note_list _ (number_of c.args.which) (sym c.if-not-note_ok.ensures))).most)
 
 pub returns : goal.returns
 returns c =
