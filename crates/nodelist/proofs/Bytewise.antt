@@ -31,16 +31,6 @@ use Rattle.nodelist.specs.Reader.{items_read, span, progress, with_span, read_on
 use Rattle.nodelist.specs.Reader.{with_dash}
 use Rattle.nodelist.specs.Reader.{with_byte, closed, stepped}
 
--- ---- the numbers of an item stay small
-
--- what lies below the limit lies below a higher one
-pub fits_wider : (item : Item) {limit wide : ℕ} → limit ≤ wide → Fits limit item → Fits wide item
-fits_wider Empty l f = tt
-fits_wider (NumberItem v) l f = omega arith
-fits_wider (Dashed a) l f = omega arith
-fits_wider (Range a b) l f = (omega arith, omega arith)
-fits_wider Broken l f = tt
-
 -- ---- no dash
 
 other_free : (x : ℕ) → (x ≡ dash → ⊥) → free dash (x ∷ []) ≡ true

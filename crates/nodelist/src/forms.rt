@@ -7,7 +7,7 @@ ghost use Rattle.nodelist.specs.Reader.{items_read};
 ghost use Rattle.nodelist.specs.Forms.{except_for, ranked_for, form_read, mask_read};
 
 use crate::reader::read_items;
-use nodemask::Mask;
+use nodemask::{Mask, Ranks};
 
 // A text of items: the nodes named.
 fn read_plain(text: &[u8], nodes: usize) -> Option<Mask>
@@ -15,7 +15,7 @@ fn read_plain(text: &[u8], nodes: usize) -> Option<Mask>
     ensures { mask_read result ≡ items_read nodes text.now }
 {
     let named = read_items(text, nodes)?;
-    Some(named.nodes())
+    Some(Mask::from(named))
 }
 
 // A text after `!`: all nodes below N not named.
@@ -24,7 +24,7 @@ fn read_except(text: &[u8], nodes: usize) -> Option<Mask>
     ensures { mask_read result ≡ except_for nodes (items_read nodes (drop 1 text.now)) }
 {
     let named = read_items(&text[1..], nodes)?;
-    Some(named.nodes().complement(nodes))
+    Some(Mask::from(named).complement(nodes))
 }
 
 // A text after `+`: the allowed nodes whose ranks are named.
@@ -33,7 +33,7 @@ fn read_ranks(text: &[u8], allowed: Mask) -> Option<Mask>
     ensures { mask_read result ≡ ranked_for allowed.0 (items_read (size most_nodes allowed.0) (drop 1 text.now)) }
 {
     let named = read_items(&text[1..], allowed.size() as usize)?;
-    Some(allowed.ranked(named.ranks()))
+    Some(allowed.ranked(Ranks::from(named)))
 }
 
 // The nodes that a text names, by its form, if it is in order.

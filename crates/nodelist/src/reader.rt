@@ -52,19 +52,23 @@ impl Numbers {
         let under = nodemask::low_bits(low);
         Numbers(self.0 | (nodemask::low_bits(high + 1) - under))
     }
+}
 
-    // The nodes of these numbers.
-    pub fn nodes(self) -> Mask
-        ensures { result.0 ≡ self.0 }
+// The nodes of these numbers.
+impl From<Numbers> for Mask {
+    fn from(numbers: Numbers) -> Mask
+        ensures { result.0 ≡ numbers.0 }
     {
-        Mask(self.0)
+        Mask(numbers.0)
     }
+}
 
-    // The ranks of these numbers.
-    pub fn ranks(self) -> Ranks
-        ensures { result.0 ≡ self.0 }
+// The ranks of these numbers.
+impl From<Numbers> for Ranks {
+    fn from(numbers: Numbers) -> Ranks
+        ensures { result.0 ≡ numbers.0 }
     {
-        Ranks(self.0)
+        Ranks(numbers.0)
     }
 }
 

@@ -68,6 +68,7 @@ fn put_run(line: &mut [u8; 192], at: usize, run: Run) -> usize
 }
 
 // All runs of a mask, each with a comma before it, put into a line: its length.
+// A `while let`: it goes by runs, and each starts where the last one ended, so an iterator of them would be no plainer.
 fn put_runs(line: &mut [u8; 192], mask: Mask) -> usize
     requires { length line.old ≡ line_bytes }
     ensures len { result ≡ length (line_of mask.0) }

@@ -2,14 +2,14 @@
 -- Assumes nothing.
 use mathlib.Core.Path.{◌≡◌, refl, sym, ap, ap₂, ◌∙◌}
 use mathlib.Core.Logic.{◌≢◌, ◌⊎◌, inl, inr, ⊎_elim}
-use mathlib.Core.Bool.{Bool, true, false, not, ◌&&◌, ◌||◌, and-false, or-false, or_assoc}
+use mathlib.Core.Bool.{Bool, true, false, ◌&&◌, ◌||◌, and-false, or-false, or_assoc}
 use Prim.Native.Nat.{ℕ, zero, suc, ◌+◌, ◌-◌, ◌*◌, ◌/◌, ◌%◌, ◌^◌, ◌≤◌, ◌<◌, max}
 use native.Mathlib.Nat.{le_refl, mod-lt, zero-lt-suc, zero-mul, one-mul, div-one, pow-suc, sub-add_cancel, add-div_right, add-mul-mod_self_right}
-use native.Mathlib.Nat.{mod-eq_of_lt, lt_irrefl, div-add-mod', le_of_suc-le-suc, not-suc-le-zero, lt_of_not-le, lt_of_mul-lt-mul_right, pos_of_ne-zero}
+use native.Mathlib.Nat.{mod-eq_of_lt, lt_irrefl, div-add-mod', le_of_suc-le-suc, not-suc-le-zero, lt_of_not-le, lt_of_mul-lt-mul_right}
 use native.Mathlib.Numerals.{lt_of_le_of_ne}
 use native.Mathlib.Decide.{ℕ_discrete, le_ind}
 use native.Mathlib.Omega.{arith}
-use borrow.Author.Tests.{eqb-true, eqb-false, eq-eqb, leb-true, leb-false, not-true}
+use borrow.Author.Tests.{eqb-true, eq-eqb, leb-true, leb-false}
 use lib.Arith.{lt-one}
 use lib.Bits.{bit_and, bit_or, and_step, and_self, mask_lt}
 use lib.Count.{count_trailing_zeros, under}
@@ -73,10 +73,6 @@ module _ (m n : ℕ) (h : bit m n ≡ 1) where
 -- the lowest node is in the mask, and none below it is
 pub lowest_is : (w m : ℕ) → 0 < m → m < 2 ^ w → IsNode m w 0 (lowest w m)
 lowest_is w m p h = select_is w m 0 (size_pos w m p h)
-
--- the mask without its lowest node is less
-pub lowest_less : (w m : ℕ) {r : ℕ} → 0 < m → m < 2 ^ w → r ≡ m - 2 ^ lowest w m → r < m
-lowest_less w m p h e = omega (arith, pow_pos (lowest w m), member_le m (lowest w m) (lowest_is w m p h).member)
 
 -- `m & (m - 1)` is the mask without its lowest node
 pub lowest_off : (w m : ℕ) → 0 < m → m < 2 ^ w → bit_and m (m - 1) + 2 ^ count_trailing_zeros w m ≡ m
@@ -266,20 +262,9 @@ ranked_split w set ranks t i n = go (ℕ_discrete n t) (leb t n) refl
         rw (digit (ranks % 2) n small d, without_other set t i.member n d, none_under set t n i.ranked (leb-false t n x))
 
 -- no rank is among none, and an empty set has no nodes
-pub ranked_none : (set ranks n : ℕ) → (not (eqb set 0) && not (eqb ranks 0)) ≡ false → by_rank set ranks n ≡ false
-ranked_none set ranks n h = go (eqb set 0) refl (eqb ranks 0) refl h
-  where
-    empty : (m k : ℕ) → m ≡ 0 → has m k ≡ false
-    empty m k z = rw z (none_in k)
-
-    go : (a : Bool) → eqb set 0 ≡ a → (b : Bool) → eqb ranks 0 ≡ b → (not a && not b) ≡ false → by_rank set ranks n ≡ false
-    go true e b f x = rw (empty set n (eqb-true set 0 e))
-    go false e true f x = rw (empty ranks (rank set n) (eqb-true ranks 0 f)) (and-false (has set n))
-    go false e false f x = absurd (let z : ◌≡◌ {A = ℕ} 0 1 = cc in omega arith)
-
--- a test that nodes and bits are left
-pub both_left : (set ranks : ℕ) → (not (eqb set 0) && not (eqb ranks 0)) ≡ true → 0 < set
-both_left set ranks h = pos_of_ne-zero (eqb-false set 0 (not-true (eqb set 0) (both_true {a = not (eqb set 0)} {b = not (eqb ranks 0)} h).0))
+ranked_none : (set ranks n : ℕ) → (set ≡ 0) ⊎ (ranks ≡ 0) → by_rank set ranks n ≡ false
+ranked_none set ranks n (inl z) = rw (z, none_in n)
+ranked_none set ranks n (inr z) = rw (z, none_in (rank set n), and-false (has set n))
 
 -- at first nothing is out
 pub ranked_start : (set ranks n : ℕ) → (has 0 n || by_rank set ranks n) ≡ by_rank set ranks n
@@ -292,7 +277,7 @@ ranked_more w set ranks out n {t} {d} {next} {rest} p h et ed er en =
     rw (en, has_or out d n, er, ranked_split w set ranks (lowest w set) (lowest_is w set p h) n, ed, et) (or_assoc (has out n) _ _)
 
 -- nothing is left: what is out is all
-pub ranked_all : (w set ranks left bits out : ℕ) → out < 2 ^ w → (not (eqb left 0) && not (eqb bits 0)) ≡ false
+pub ranked_all : (w set ranks left bits out : ℕ) → out < 2 ^ w → (left ≡ 0) ⊎ (bits ≡ 0)
     → ((n : ℕ) → (has out n || by_rank left bits n) ≡ by_rank set ranks n) → out ≡ mask_of w (by_rank set ranks)
 ranked_all w set ranks left bits out h e q =
     mask_of_is w out (by_rank set ranks) h (λ n l. sym (or-false (has out n)) ∙ ap (λ (b : Bool). has out n || b) (sym (ranked_none left bits n e)) ∙ q n)

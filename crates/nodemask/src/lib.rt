@@ -3,11 +3,13 @@
 #![tactic(auto)]
 
 ghost use Rattle.std.specs.Prelude.{◌≡◌, ◌-◌, ◌^◌, ◌<◌, ◌≤◌};
+ghost use Rattle.std.specs.Iterator.{at_most};
 ghost use Rattle.rules.specs.Machine.{nodes_ok};
 ghost use Rattle.rules.specs.Masks.{most_nodes, has, is_empty, below, all_nodes, both, either, within, insert, rank, size, lowest, folded, remapped};
 ghost use Rattle.rules.specs.SearchOrder.{target};
 ghost use Rattle.nodemask.specs.Found.{found_node};
 ghost use Rattle.nodemask.specs.Ranks.{wrapped, ranks_in, ranked_in};
+ghost use Rattle.nodemask.specs.Taken.{TakesLowest};
 
 use rules::{MOST_NODES, SysNode};
 
@@ -203,30 +205,35 @@ impl Mask {
         Mask(self.0 & (self.0 - 1))
     }
 
-    // The ranks of the mask's nodes in a set. A `while`: the mask itself is used up, node by node, and no index is counted.
+    // Its nodes, lowest first.
+    pub fn nodes(self) -> Nodes
+        ensures { result.0 ≡ self.0 }
+    {
+        Nodes(self.0)
+    }
+
+    // The ranks of the mask's nodes in a set.
     pub fn ranks_in(self, set: Mask) -> Ranks
         ensures { result.0 ≡ ranks_in set.0 self.0 }
     {
         let mut out = Ranks::EMPTY;
-        let mut left = self;
-        while left.0 != 0 {
-            out = out.insert(set.rank(left.lowest()));
-            left = left.rest();
+        for node in self.nodes() {
+            out = out.insert(set.rank(node));
         }
         out
     }
 
-    // The nodes of the mask whose ranks are among these: node by node, each takes the next bit. A `while`, as in `ranks_in`.
+    // The nodes of the mask whose ranks are among these: node by node, each takes the next bit.
     pub fn ranked(self, ranks: Ranks) -> Mask
         ensures { result.0 ≡ ranked_in self.0 ranks.0 }
     {
         let mut out: u64 = 0;
-        let mut left = self;
         let mut bits = ranks.0;
-        while (left.0 != 0) & (bits != 0) {
-            let node = left.lowest();
+        for node in self.nodes() {
+            if bits == 0 {
+                break;
+            }
             out = out | ((bits % 2) << node.0);
-            left = left.rest();
             bits = bits / 2;
         }
         Mask(out)
@@ -248,5 +255,29 @@ impl Mask {
     {
         let ranks = self.ranks_in(old).wrapped(new.size());
         new.ranked(ranks)
+    }
+}
+
+// The nodes of a mask that are left to be taken.
+#[derive(Drop)]
+pub struct Nodes(u64);
+
+impl Iterator for Nodes {
+    type Item = SysNode;
+
+    ghost next_gives = { TakesLowest };
+
+    ghost remaining = { λ s. at_most s.0 };
+
+    // The lowest one.
+    #[inline]
+    fn next(&mut self) -> Option<SysNode> {
+        let word = self.0;
+        if word == 0 {
+            return None;
+        }
+        let left = Mask(word);
+        self.0 = left.rest().0;
+        Some(left.lowest())
     }
 }

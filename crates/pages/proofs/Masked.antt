@@ -33,18 +33,6 @@ held_past c part mask i k r a l h = of_past c part i (i + k) (omega arith) held
 
 -- ---- the loops that test every byte under the mask
 
--- the lowest of the bytes 16 apart, one more
-pub lowest_next : (b : List ℕ) (i k lowest next : ℕ) → i < 16 → next ≡ min lowest (get_or b (16 * k + i) 0)
-    → ((j : ℕ) → j < 16 * k → j % 16 ≡ i → lowest ≤ get_or b j 0) → (j : ℕ) → j < 16 * (k + 1) → j % 16 ≡ i → next ≤ get_or b j 0
-lowest_next b i k lowest next l e h j u q = go (ltb j (16 * k)) refl
-  where
-    go : (t : Bool) → ltb j (16 * k) ≡ t → next ≤ get_or b j 0
-    go true t = omega (arith, h j (ltb-true j (16 * k) t) q)
-    go false t =
-        let m : 16 * k ≤ j = ltb-false j (16 * k) t in
-        let s : 16 * k + i ≡ j = omega arith in
-        omega (arith, rw s at e)
-
 -- no byte is passed over yet
 pub under_none : (mask block : List ℕ) → HeldUnder mask 0 block
 unfolding HeldUnder
@@ -66,21 +54,7 @@ under_next mask block i lowest any n low held f j u m z =
     (λ s. held both.0 j u s z)
     (eq-or-lt_of_le m')
 
--- until none is left
-pub under_all : (mask block : List ℕ) (i : ℕ) → 16 ≤ i → HeldUnder mask i block → HeldUnder mask 16 block
-unfolding HeldUnder
-under_all mask block i l held j u m z = held j u (omega arith) z
-
 -- ---- the loop that makes the mask
-
-pub shaded_next : (c : ℕ) (mask : List ℕ) (i v : ℕ) → i < length mask → (i % 4 ≡ c → v ≡ 0) → ((k : ℕ) → k < i → k % 4 ≡ c → get_or mask k 0 ≡ 0)
-    → (k : ℕ) → k < i + 1 → k % 4 ≡ c → get_or (set mask i v) k 0 ≡ 0
-shaded_next c mask i v l s f k h q =
-    let h' : k ≤ i = omega arith in
-    ⊎_elim
-    (λ e. rw e (get_or-set_same mask i v 0 l ∙ s (rw e at q)))
-    (λ u. get_or-set_other mask i k v 0 (λ e. omega arith) ∙ f k u q)
-    (eq-or-lt_of_le h')
 
 pub shaded_all : (c : ℕ) (mask : List ℕ) → ((k : ℕ) → k < length mask → k % 4 ≡ c → get_or mask k 0 ≡ 0) → Clears c mask
 unfolding Clears

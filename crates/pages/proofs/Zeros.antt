@@ -17,10 +17,6 @@ use Rattle.pages.specs.FirstZero.{zeros}
 pub zeros_step : (b : List ℕ) (i : ℕ) → i < length b → zeros (drop i b) ≡ cond (eqb (get_or b i 0) 0) 1 0 + zeros (drop (i + 1) b)
 zeros_step b i h = rw (add-one, drop-cons b i 0)
 
--- past the end there is none
-pub zeros_end : (b : List ℕ) (i : ℕ) → length b ≤ i → zeros (drop i b) ≡ 0
-zeros_end b i h = rw (drop_of_length-le b h)
-
 -- no more than there are bytes
 pub zeros_most : (xs : List ℕ) → zeros xs ≤ length xs
 zeros_most [] = omega arith

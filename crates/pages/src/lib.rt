@@ -58,10 +58,7 @@ fn block_end(len: usize, from: usize, size: usize) -> usize
     requires { from ≤ len }
     ensures { result ≡ min len (from + size) }
 {
-    if len - from < size {
-        return len;
-    }
-    from + size
+    from + size.min(len - from)
 }
 
 // The index of a byte that is 0, else `none`.
@@ -133,10 +130,7 @@ pub fn has_free(part: &[u8]) -> bool
 fn one_if_zero(byte: u8) -> u8
     ensures { result ≡ cond (eqb byte 0) 1 0 }
 {
-    if byte != 0 {
-        return 0;
-    }
-    1
+    u8::from(byte == 0)
 }
 
 // How many bytes of a block are 0: counted in a byte, so that it is compiled to vectors.

@@ -22,11 +22,6 @@ pub fill_none : (w v : ℕ) (xs : List ℕ) → replicate w v ≡ filled w v xs 
 unfolding filled
 fill_none w v xs = paste-zero (replicate w v) 0 xs
 
--- there are always w
-pub fill_length : (w v : ℕ) (xs : List ℕ) (i : ℕ) → i ≤ length xs → i ≤ w → length (filled w v xs i) ≡ w
-unfolding filled
-fill_length w v xs i h l = length-paste (replicate w v) 0 xs i (rw (zero-add i, length-replicate) l) h ∙ length-replicate w v
-
 -- one entry more is written
 pub fill_step : (w v : ℕ) (xs : List ℕ) (i d : ℕ) → i < length xs → i < w → set (filled w v xs i) i (get_or xs i d) ≡ filled w v xs (i + 1)
 unfolding filled

@@ -11,7 +11,7 @@ pub complement-requires : goal.complement-requires
 complement-requires c = let told : numbers_read c.read_items.result ≡ items_read c.args.nodes (drop 1 c.args.text.now) =
     c.read_items.ensures ∙ ap (items_read c.args.nodes) (past_mark c.args.text.now) in (
       c.requires.1,
-      rw c.nodes.ensures
+      rw c.from.ensures
           (subst (Below c.args.nodes) (sym told ∙ ap numbers_read c.in_ok-named.was)
           (items_below c.args.nodes (drop 1 c.args.text.now) c.requires.1)),
     )

@@ -1,7 +1,6 @@
 -- `Mask::below` meets its contract: what is shifted out at n is nothing, and 64 bits lie below each n from 64 on.
 -- Assumes nothing.
 use mathlib.Core.Path.{sym}
-use borrow.Author.Rules.{rules}
 use native.Mathlib.Omega.{arith}
 use Rattle.rules.proofs.Masks.{shifted_out, below_wide}
 use Rattle.nodemask.proofs.Mask.below.Goals as goal

@@ -3,7 +3,6 @@
 use mathlib.Core.Path.{ap, sym, ◌∙◌}
 use Prim.Native.Nat.{ℕ, ◌-◌, ◌^◌}
 use native.Mathlib.Nat.{sub-add_cancel}
-use borrow.Author.Rules.{rules}
 use lib.Bits.{bit_and}
 use Rattle.rules.specs.Masks.{all_nodes}
 use Rattle.rules.proofs.Masks.{and_not}

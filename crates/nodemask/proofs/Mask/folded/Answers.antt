@@ -3,7 +3,6 @@
 use Prim.Native.Nat.{ℕ}
 use mathlib.Core.Path.{refl, ap, ◌∙◌}
 use native.Mathlib.Omega.{arith}
-use borrow.Author.Rules.{rules}
 use Rattle.rules.specs.Masks.{folded, folded_to}
 use Rattle.rules.proofs.Masks.{size_pos, rank_le}
 use Rattle.nodemask.specs.Ranks.{wrapped, ranked_in}

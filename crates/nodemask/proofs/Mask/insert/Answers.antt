@@ -1,6 +1,5 @@
 -- `Mask::insert` meets its contract: `m | (1 << n)` is m with node n.
 -- Assumes nothing.
-use borrow.Author.Rules.{rules}
 use Rattle.rules.proofs.Masks.{or_shifted}
 use Rattle.nodemask.proofs.Mask.insert.Goals as goal
 

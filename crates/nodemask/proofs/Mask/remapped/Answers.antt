@@ -4,7 +4,6 @@ use Prim.Native.Nat.{ℕ, ◌%◌}
 use mathlib.Core.Path.{refl, ap, ◌∙◌}
 use native.Mathlib.Nat.{lt_of_le_of_lt, lt_of_lt_of_le, mod-lt}
 use native.Mathlib.Omega.{arith}
-use borrow.Author.Rules.{rules}
 use Rattle.rules.specs.Masks.{rank, remapped, remapped_to}
 use Rattle.rules.proofs.Masks.{size_pos, rank_le}
 use Rattle.nodemask.specs.Ranks.{wrapped, ranks_in, ranked_in}

@@ -3,7 +3,6 @@
 use Prim.Native.Nat.{ℕ, ◌^◌}
 use mathlib.Core.Path.{ap}
 use native.Mathlib.Omega.{arith}
-use borrow.Author.Rules.{rules}
 use Rattle.rules.proofs.Masks.{trailing_select}
 use Rattle.nodemask.proofs.RankLaws.{lowest_off}
 use Rattle.nodemask.proofs.Mask.rest.Goals as goal

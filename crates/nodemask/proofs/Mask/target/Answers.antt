@@ -1,16 +1,12 @@
 -- `Mask::target` meets its contract: the lowest node from the cursor field on, else the lowest, else none.
 -- Assumes nothing.
 use mathlib.Core.Path.{◌≡◌, ap, sym, ◌∙◌}
-use mathlib.Core.Logic.{⊎_elim}
-use Prim.Native.Nat.{ℕ, ◌+◌, ◌/◌, ◌^◌, ◌<◌}
+use Prim.Native.Nat.{ℕ, ◌/◌, ◌^◌, ◌<◌}
 use native.Mathlib.Nat.{pos_of_ne-zero, div-eq_of_lt, lt_of_lt_of_le}
 use native.Mathlib.Omega.{arith}
-use borrow.Author.Rules.{rules}
 use borrow.Author.Tests.{eqb-true, eqb-false}
 use lib.Pow.{pow_mono}
-use lib.Count.{count_trailing_zeros}
 use Rattle.rules.specs.SearchOrder.{target}
-use Rattle.rules.proofs.Masks.{trailing_is, trailing_from}
 use Rattle.rules.proofs.Turns.{turn_of, turn_above, turn_round, turn_none}
 use Rattle.nodemask.proofs.Mask.target.Goals as goal
 use Rattle.nodemask.proofs.Mask.target.Goals.{then-cursor-lt-MOST_NODES+else-above-ne0, else-cursor-lt-MOST_NODES}

@@ -1,6 +1,5 @@
 -- `Ranks::insert` meets its contract: `m | (1 << r)` is m with rank r.
 -- Assumes nothing.
-use borrow.Author.Rules.{rules}
 use Rattle.rules.proofs.Masks.{or_shifted}
 use Rattle.nodemask.proofs.Ranks.insert.Goals as goal
 

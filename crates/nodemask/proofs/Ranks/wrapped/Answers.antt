@@ -1,13 +1,12 @@
 -- `Ranks::wrapped` meets its contract. The loop's invariant: the set lies over itself, shifted by w, as often as the step counts.
 -- Assumes nothing.
-use Prim.Native.Nat.{ℕ, ◌+◌, ◌-◌, ◌*◌, ◌<◌}
-use mathlib.Core.Path.{◌≡◌, sym, ap, ◌∙◌}
-use native.Mathlib.Nat.{one-mul, add-mul}
+use Prim.Native.Nat.{◌+◌}
+use mathlib.Core.Path.{ap, ◌∙◌}
+use native.Mathlib.Nat.{add-mul}
 use native.Mathlib.Omega.{arith}
-use borrow.Author.Rules.{rules}
 use lib.Bits.{bit_and}
 use Rattle.nodemask.specs.Ranks.{wrapped}
-use Rattle.nodemask.proofs.RankLaws.{Laid, laid_once, laid_twice, laid_all}
+use Rattle.nodemask.proofs.RankLaws.{laid_twice, laid_all}
 use Rattle.nodemask.proofs.Ranks.wrapped.Goals as goal
 
 pub loop-step-preserved : goal.loop-step-preserved

@@ -1,13 +1,8 @@
 -- `Ranks::wrapped` meets its contract. The loop's invariant: the set lies over itself, shifted by w, as often as the step counts.
 -- Assumes nothing.
-use Prim.Native.Nat.{ℕ, ◌+◌, ◌-◌, ◌*◌, ◌<◌}
-use mathlib.Core.Path.{◌≡◌, sym, ap, ◌∙◌}
-use native.Mathlib.Nat.{one-mul, add-mul}
-use native.Mathlib.Omega.{arith}
-use borrow.Author.Rules.{rules}
-use lib.Bits.{bit_and}
-use Rattle.nodemask.specs.Ranks.{wrapped}
-use Rattle.nodemask.proofs.RankLaws.{Laid, laid_once, laid_twice, laid_all}
+use Prim.Native.Nat.{ℕ, ◌-◌, ◌*◌, ◌<◌}
+use mathlib.Core.Path.{◌≡◌}
+use Rattle.nodemask.proofs.RankLaws.{Laid}
 use Rattle.nodemask.proofs.Ranks.wrapped.Given as goal
 
 abbrev pub invariant-loop-step : goal.invariant-loop-step
