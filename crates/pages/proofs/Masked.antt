@@ -1,6 +1,6 @@
 -- Laws of the search under a mask: a block with no free page of the colour is passed over; how the mask is made.
 -- Assumes nothing.
-use Prim.Native.Nat.{ℕ, ◌+◌, ◌-◌, ◌*◌, ◌%◌, ◌≤◌, ◌<◌, min}
+use Prim.Native.Nat.{ℕ, ◌+◌, ◌-◌, ◌%◌, ◌≤◌, ◌<◌}
 use mathlib.Core.Path.{◌≡◌, refl, ap, ◌∙◌}
 use mathlib.Core.Logic.{⊎_elim}
 use mathlib.Core.Bool.{Bool, true, false, ◌||◌}
@@ -10,8 +10,8 @@ use native.Mathlib.Omega.{arith}
 use borrow.Author.Tests.{ltb-true, ltb-false, eqb-false}
 use lib.Bits.{bit_or}
 use lib.Dec.{ltb, eqb}
-use lib.ListN.{length, get_or, set, take, drop, length-drop, length-take, get_or-eq_default}
-use lib.Seq.{get_or-take, get_or-drop, get_or-set_same, get_or-set_other}
+use lib.ListN.{length, get_or, take, drop, length-drop, length-take, get_or-eq_default}
+use lib.Seq.{get_or-take, get_or-drop}
 use Rattle.rules.proofs.Lists.{either_false}
 use Rattle.pages.specs.Colours.{free_of, Clears, HeldUnder}
 use Rattle.pages.proofs.Colours.{of_past}

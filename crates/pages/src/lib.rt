@@ -53,12 +53,16 @@ fn skip(part: &[u8], from: usize, block: usize) -> usize
     i
 }
 
-// Where a block of so many bytes ends, or of those that are left.
+// Where a block of so many bytes ends, or of those that are left. Tried as `from + size.min(len - from)`: where the last bytes are no whole
+// block, a search then takes 5 to 15 ns more.
 fn block_end(len: usize, from: usize, size: usize) -> usize
     requires { from ≤ len }
     ensures { result ≡ min len (from + size) }
 {
-    from + size.min(len - from)
+    if len - from < size {
+        return len;
+    }
+    from + size
 }
 
 // The index of a byte that is 0, else `none`.
@@ -107,7 +111,8 @@ fn first_free(part: &[u8], from: usize) -> Option<Offset>
     let narrow = skip(part, wide, 16);
     let mut i = narrow;
 
-    // Tried with `step_by`, and as one block with no loop: 3 ns more for each search, or 12 ns more where the last bytes are no whole block.
+    // Tried with `step_by`, and as one block with no loop: 3 ns more for each search, or 12 ns more where the last bytes are no whole block;
+    // the goal is 1.2 times the search before (docs/BENCHMARKS.md, the picker alone).
     while i < part.len() {
         let end = block_end(part.len(), i, 16);
         let at = i + lowest_zero(&part[i..end]);
@@ -210,7 +215,8 @@ fn has_clear(block: &[u8], mask: &[u8; 16]) -> bool
     any
 }
 
-// Passes over blocks of 128 that have no 0 at the mask's colour, from an index on. A `while`, as in `skip`.
+// Passes over blocks of 128 that have no 0 at the mask's colour, from an index on. A `while`, as in `skip`. The
+// two are not one function of a test: it would promise the test of each block, and each caller would carry that to its own search: no plainer.
 fn skip_masked(part: &[u8], from: usize, mask: &[u8; 16]) -> usize
     requires { (from ≤ length part.now) × (from % 4 ≡ 0) }
     ensures within { (result ≤ length part.now) × (result % 4 ≡ 0) }
@@ -237,7 +243,8 @@ fn first_coloured(part: &[u8], from: usize, colour: usize) -> Option<Offset>
     let start = skip_masked(part, from, &mask);
     let mut at = start + colour;
 
-    // Tried with `step_by`: it makes a second test in each turn, which takes 3 to 5 ns of 28.
+    // Tried with `step_by`: it makes a second test in each turn, which takes 3 to 5 ns of 28, where the goal is 1.2 times the search before
+    // (docs/BENCHMARKS.md, the picker alone).
     while at < part.len() {
         if part[at] == 0 {
             return Some(Offset(at));

@@ -11,7 +11,7 @@ use native.Mathlib.Omega.{arith}
 use borrow.Author.Tests.{ltb-false}
 use lib.Dec.{ltb}
 use lib.ListN.{length, get_or, take, drop, set, replicate, length-replicate}
-use lib.Seq.{paste, paste-zero, paste-suc, length-paste, take-append-add}
+use lib.Seq.{paste, paste-zero, paste-suc, take-append-add}
 
 -- the first i of some entries, and v after them, w in all
 unfoldable pub filled : ℕ → ℕ → List ℕ → ℕ → List ℕ

@@ -45,13 +45,11 @@ const NO_PAGE: u32 = 0xFFFF_FFFF;
 pub fn closes(places: &[u8]) -> bool
     ensures { result ≡ closes places.now }
 {
-    match places.last() {
-        Some(last) => *last == CLOSING_PLACE,
-        None => false,
-    }
+    places.last() == Some(&CLOSING_PLACE)
 }
 
 // Copies a list over equal bytes: its first entries, as many as have room.
+// It is not `copy`: here a list may be cut, and equal bytes are left behind it; there all have room, and what stood behind them is left.
 pub fn copy_first(list: &[u8], out: &mut [u8])
     ensures { (w v : ℕ) → out.old ≡ replicate w v → out.new ≡ take w (list.now ++ replicate w v) }
 {
