@@ -22,7 +22,6 @@ pub fn end_of(bytes: &[u8]) -> usize
 }
 
 // The first string, without its zero, and the bytes behind that zero; none if no zero is left.
-// The loops over strings are a `while let` over it, since strings are no elements of a slice that a `for` could go over.
 pub fn split_string(bytes: &[u8]) -> Option<(&[u8], &[u8])>
     ensures { MatchOption result (strings bytes.now ≡ []) (λ both. Split bytes.now both.0.now both.1.now) }
 {
@@ -65,6 +64,7 @@ fn count_names(list: &[u8]) -> Option<usize>
 {
     let mut left = list;
     let mut n = 0;
+    // A `while let`: an iterator over the strings hides the bytes behind each, of which `last` and the end tell whether any are left.
     while let Some((word, rest)) = split_string(left) {
         let full = MOST_NAMES <= n;
         if full {

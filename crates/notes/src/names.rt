@@ -13,6 +13,7 @@ fn names_ok(table: &[u8], nodes: usize) -> bool
 {
     let mut left = table;
     let mut n = 0;
+    // A `while let`: an iterator over the strings hides the bytes behind the last one, which there may not be.
     while let Some((name, rest)) = list::split_string(left) {
         if !list::name_ok(name, false) {
             return false;
@@ -40,6 +41,7 @@ pub fn first_match(table: &[u8], word: &[u8]) -> Option<usize>
 {
     let mut left = table;
     let mut n = 0;
+    // Tried as an iterator's `position`: its `next` proved, but that the numbers fit and that the result is the first match stayed open.
     while let Some((name, rest)) = list::split_string(left) {
         if word == name {
             return Some(n);

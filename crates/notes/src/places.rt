@@ -30,7 +30,7 @@ fn place_of(map: &[u8], table: &[u8], word: &[u8]) -> Option<u8>
     Some(place)
 }
 
-// The places of a list put into a line: how many, 0 if a name is unknown.
+// The places of a list put into a line: how many, 0 if a name is unknown: the rules' own answer, whose `places_in` is empty then.
 fn put_places(map: &[u8], table: &[u8], list: &[u8], line: &mut [u8; PLACES_PER_JOB]) -> usize
     requires { ((n : ℕ) × Tested n map.now table.now) × (length (strings list.now) ≤ most_names) × (length line.old ≡ places_per_job) }
     ensures len { result ≡ length (places_in (strings table.now) (nodes_in map.now) (strings list.now)) }
@@ -38,6 +38,7 @@ fn put_places(map: &[u8], table: &[u8], list: &[u8], line: &mut [u8; PLACES_PER_
 {
     let mut left = list;
     let mut n = 0;
+    // A `while let`, as in `names::first_match`, where an iterator was tried.
     while let Some((word, rest)) = list::split_string(left) {
         let Some(place) = place_of(map, table, word) else {
             return 0;

@@ -44,7 +44,8 @@ turn_note-requires c =
 pub returns : goal.returns
 returns c =
     c.turn_note.ensures
-    ∙ ap (λ (bytes : List ℕ). note_tests (strings c.args.names.now) (nodes_in bytes) c.args.note.now (number_of c.from.result) c.args.out.now) c.of_job-map.ensures
+    ∙ ap (λ (bytes : List ℕ). note_tests (strings c.args.names.now) (nodes_in bytes) c.args.note.now (number_of c.from.result) c.args.out.now)
+    c.of_job-map.ensures
     ∙ same_list _ _ _ _ _ _ c.from.ensures
     ∙ good_map_lem _ _ _ _ _ _ _ _ (sym c.if-not-mapped_ok.ensures) (sym c.if-not-table_ok.ensures) (sym c.if-not-has_job.ensures)
     (rw c.of_job-map.ensures at c.in-Some.ensures.0)
