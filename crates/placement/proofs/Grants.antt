@@ -26,7 +26,7 @@ use Rattle.pages.specs.Colours.{is_of, pick_of, HeldBefore}
 use Rattle.pages.proofs.Picked.{pick_within}
 use Rattle.pages.proofs.Part.{pick_part}
 use Rattle.machine.proofs.Tables.{pages_step}
-use Rattle.placement.specs.Grants.{page_for, part_colour, Chose, Paged}
+use Rattle.placement.specs.Grants.{page_for, part_colour, Chose, Paged, Ready}
 
 -- ---- the page of one node
 
@@ -200,6 +200,10 @@ module _ (counts free : List ℕ) (n : ℕ) where
   count_fits_lem h = le-leb (get_or free n 0 + 1) (get_or counts n 0) (omega arith)
 
 -- ---- where a node's pages are
+
+-- what a grant counts on says where they are
+pub paged : {counts starts ledger : List ℕ} {j : ℕ} → Ready counts starts ledger j → Paged counts starts ledger
+paged r = record { few = r.few; pages = r.pages; begin = r.begin; fits = r.fits }
 
 module _ {counts starts ledger : List ℕ} (p : Paged counts starts ledger) (n : ℕ) (l : n < length counts) where
   -- where the node's pages start and end

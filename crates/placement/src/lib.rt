@@ -166,17 +166,8 @@ pub fn request_at(
     ensures did { let l = layout.entry in outcome (placed_as (map_of (tables_of pages.old jobs.old free.old maps.now) job) result) (tables_of pages.new jobs.new free.new maps.now) ≡ on_request (machine_of l.counts.now cpus.now distances.now) (tables_of pages.old jobs.old free.old maps.now) job cpu }
     ensures found { InNode layout.entry.counts.now result }
 {
-    let admitted = admit(
-        layout.counts,
-        cpus,
-        distances,
-        pages,
-        jobs,
-        free,
-        maps,
-        job,
-        cpu,
-    )?;
+    let counts = layout.counts;
+    let admitted = admit(counts, cpus, distances, pages, jobs, free, maps, job, cpu)?;
     let x = SysNode(cpus[cpu]);
     serve(
         layout,

@@ -18,7 +18,7 @@ use Rattle.rules.specs.Reasons.{reason_in, reason_of, reasons_of, meets_room, re
 use Rattle.machine.specs.Tables.{Starts}
 use Rattle.placement.specs.Searches.{chosen_by}
 use Rattle.placement.specs.declared.search.Chosen.{Chosen}
-use Rattle.placement.proofs.Grants.{chose}
+use Rattle.placement.proofs.Grants.{chose, paged}
 use Rattle.placement.proofs.Hints.{no_hints}
 use Rattle.placement.proofs.Requests.{let_through, searchable}
 use Rattle.reasons.specs.Explains.{IsNode, Explainable, explained}
@@ -54,7 +54,7 @@ module _ (m : Machine) (t : Tables) (j k : ℕ) where
   explainable l e begin =
       let s = searchable m t j k l (let_through m t j k e) begin (no_hints m.page_counts t.ledger) in
       record {
-        paged = record { few = s.0.few; pages = s.0.pages; begin = s.0.begin; fits = s.0.fits };
+        paged = paged s.0;
         one_each = s.2;
         searchable = s.3;
       }

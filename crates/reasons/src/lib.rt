@@ -93,18 +93,9 @@ fn write_at(
     requires { request_tables_ok (machine_of layout.counts.now cpus.now distances.now) (tables_of pages.now jobs.now free.now maps.now) ≡ true }
     ensures { wrote (decision_of result) out.new ≡ on_reasons (machine_of layout.entry.counts.now cpus.now distances.now) (tables_of pages.now jobs.now free.now maps.now) job cpu out.old }
 {
-    let admitted = placement::admit(
-        layout.counts,
-        cpus,
-        distances,
-        pages,
-        jobs,
-        free,
-        maps,
-        job,
-        cpu,
-    )?;
-    if out.len() < layout.counts.len() {
+    let counts = layout.counts;
+    let admitted = placement::admit(counts, cpus, distances, pages, jobs, free, maps, job, cpu)?;
+    if out.len() < counts.len() {
         return Err(Refusal::OutputTooShort);
     }
     let x = SysNode(cpus[cpu]);

@@ -13,6 +13,25 @@ use Rattle.machine.proofs.Tables.{counts_tested}
 use Rattle.placement.proofs.InOrder.{release_tested}
 use Rattle.placement.proofs.Requests.{release_map}
 use Rattle.placement.proofs.release.Goals as goal
+use Rattle.placement.proofs.release.Goals.{Else-not-counts_ok, After-lent_ok-fits, Else-not-at-fits}
+
+-- each page count is in order
+each_ok : (c : Else-not-counts_ok) → (nodes_ok (length c.args.counts.now) && all (λ k. leb k 65536) c.args.counts.now) ≡ true
+each_ok c = sym c.counts_ok.ensures ∙ c.if-not-counts_ok.false
+
+-- the tables of the call, which are tested
+abbrev tables : (c : After-lent_ok-fits) → Tables
+tables c = tables_of c.args.pages.now c.args.jobs.now c.args.free.now c.args.maps.now
+
+tested : (c : After-lent_ok-fits)
+    → (leb c.locate-at.result.total 1048576 && c.lent_ok-fits.result) ≡ release_tables_ok c.args.counts.now (tables c)
+tested c =
+    ap (λ (b : Bool). leb c.locate-at.result.total 1048576 && b) c.lent_ok-fits.ensures
+    ∙ release_tested c.args.counts.now (tables c) c.locate-at.ensures.1 (each_ok (goal.at.After-lent_ok-fits c).Else-not-counts_ok)
+
+-- and in order
+in_order : (c : Else-not-at-fits) → release_tables_ok c.args.counts.now (tables (goal.at.Else-not-at-fits c).After-lent_ok-fits) ≡ true
+in_order c = sym (tested (goal.at.Else-not-at-fits c).After-lent_ok-fits) ∙ c.if-not-at-fits.false
 
 -- a page count breaks the rules
 pub returns-then-not-counts_ok : goal.returns-then-not-counts_ok
@@ -20,41 +39,20 @@ unfolding on_release release_decision applied release_tables_ok fresh_tables_ok
 returns-then-not-counts_ok c = rw (sym (counts_tested c.args.counts.now (sym c.counts_ok.ensures ∙ c.if-not-counts_ok.true)))
 
 pub locate-at-requires : goal.locate-at-requires
-locate-at-requires c = let each-ok : (nodes_ok (length c.args.counts.now) && all (λ k. leb k 65536) c.args.counts.now) ≡ true = sym
-    c.counts_ok.ensures ∙ c.if-not-counts_ok.false in
-    nodes_few _ (both_true {a = nodes_ok _} each-ok).0
+locate-at-requires c = nodes_few _ (both_true {a = nodes_ok _} (each_ok (goal.at.locate-at-requires c).Else-not-counts_ok)).0
 
 -- there are too many pages, or the page table, the free counts or the job table break the rules
 pub returns-then-not-at-fits : goal.returns-then-not-at-fits
 unfolding on_release release_decision applied
-returns-then-not-at-fits c = let tables : Tables = tables_of c.args.pages.now c.args.jobs.now c.args.free.now c.args.maps.now in
-    let each-ok : (nodes_ok (length c.args.counts.now) && all (λ k. leb k 65536) c.args.counts.now) ≡ true = sym c.counts_ok.ensures ∙
-    c.if-not-counts_ok.false in
-    let tested : (leb c.locate-at.result.total 1048576 && c.lent_ok-fits.result) ≡ release_tables_ok c.args.counts.now (tables) = ap
-    (λ (b : Bool). leb c.locate-at.result.total 1048576 && b) c.lent_ok-fits.ensures ∙ release_tested c.args.counts.now (tables)
-    c.locate-at.ensures.1 (each-ok) in
-    rw (sym tested ∙ c.if-not-at-fits.true)
+returns-then-not-at-fits c = rw (sym (tested (goal.at.returns-then-not-at-fits c).After-lent_ok-fits) ∙ c.if-not-at-fits.true)
 
 pub release_located-placed-requires : goal.release_located-placed-requires
-release_located-placed-requires c = let tables : Tables = tables_of c.args.pages.now c.args.jobs.now c.args.free.now c.args.maps.now in
-    let each-ok : (nodes_ok (length c.args.counts.now) && all (λ k. leb k 65536) c.args.counts.now) ≡ true = sym c.counts_ok.ensures ∙
-    c.if-not-counts_ok.false in
-    let tested : (leb c.locate-at.result.total 1048576 && c.lent_ok-fits.result) ≡ release_tables_ok c.args.counts.now (tables) = ap
-    (λ (b : Bool). leb c.locate-at.result.total 1048576 && b) c.lent_ok-fits.ensures ∙ release_tested c.args.counts.now (tables)
-    c.locate-at.ensures.1 (each-ok) in
-    let in-order-all : release_tables_ok c.args.counts.now (tables) ≡ true = sym (tested) ∙ c.if-not-at-fits.false in
-    let found = c.locate-at.ensures in
-    (in-order-all, found.1, λ l. found.0)
+release_located-placed-requires c = let found = c.locate-at.ensures in
+    (in_order (goal.at.release_located-placed-requires c).Else-not-at-fits, found.1, λ l. found.0)
 
 pub tell-requires : goal.tell-requires
-tell-requires c = let tables : Tables = tables_of c.args.pages.now c.args.jobs.now c.args.free.now c.args.maps.now in
-    let each-ok : (nodes_ok (length c.args.counts.now) && all (λ k. leb k 65536) c.args.counts.now) ≡ true = sym c.counts_ok.ensures ∙
-    c.if-not-counts_ok.false in
-    let tested : (leb c.locate-at.result.total 1048576 && c.lent_ok-fits.result) ≡ release_tables_ok c.args.counts.now (tables) = ap
-    (λ (b : Bool). leb c.locate-at.result.total 1048576 && b) c.lent_ok-fits.ensures ∙ release_tested c.args.counts.now (tables)
-    c.locate-at.ensures.1 (each-ok) in
-    let in-order-all : release_tables_ok c.args.counts.now (tables) ≡ true = sym (tested) ∙ c.if-not-at-fits.false in
-    release_map _ tables c.args.job c.args.page (map_of tables c.args.job) c.release_located-placed.result in-order-all
+tell-requires c = let t = tables (goal.at.tell-requires c).After-lent_ok-fits in
+    release_map _ t c.args.job c.args.page (map_of t c.args.job) c.release_located-placed.result (in_order (goal.at.tell-requires c).Else-not-at-fits)
     c.release_located-placed.ensures.did
 
 pub returns : goal.returns

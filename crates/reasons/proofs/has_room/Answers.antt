@@ -1,8 +1,6 @@
 -- `has_room` meets its contract: the node's part of the page table is looked at.
 -- Assumes nothing.
-use Prim.Native.Nat.{◌+◌, ◌≤◌}
 use mathlib.Core.Path.{◌∙◌}
-use lib.ListN.{length, get_or}
 use Rattle.placement.proofs.Grants.{inside}
 use Rattle.reasons.proofs.Room.{room_is}
 use Rattle.reasons.proofs.has_room.Goals as goal
@@ -11,19 +9,10 @@ pub returns : goal.returns
 returns c = c.has_free.ensures ∙ room_is c.requires.0 c.args.node.0 c.requires.1
 
 pub slice_bounds-has_free-count : goal.slice_bounds-has_free-count
-slice_bounds-has_free-count c = let part : (get_or c.args.layout.starts.now c.args.node.0 0 ≤ get_or c.args.layout.starts.now (c.args.node.0 + 1) 0) ×
-    (get_or c.args.layout.starts.now (c.args.node.0 + 1) 0 ≤ length c.args.pages.now) × (get_or c.args.layout.starts.now (c.args.node.0 + 1) 0 ≤ 1048576) = inside
-    c.requires.0 c.args.node.0 c.requires.1 in
-    part.0
+slice_bounds-has_free-count c = (inside c.requires.0 c.args.node.0 c.requires.1).0
 
 pub slice_bounds-has_free-start : goal.slice_bounds-has_free-start
-slice_bounds-has_free-start c = let part : (get_or c.args.layout.starts.now c.args.node.0 0 ≤ get_or c.args.layout.starts.now (c.args.node.0 + 1) 0) ×
-    (get_or c.args.layout.starts.now (c.args.node.0 + 1) 0 ≤ length c.args.pages.now) × (get_or c.args.layout.starts.now (c.args.node.0 + 1) 0 ≤ 1048576) = inside
-    c.requires.0 c.args.node.0 c.requires.1 in
-    part.0
+slice_bounds-has_free-start c = (inside c.requires.0 c.args.node.0 c.requires.1).0
 
 pub slice_bounds-has_free-end : goal.slice_bounds-has_free-end
-slice_bounds-has_free-end c = let part : (get_or c.args.layout.starts.now c.args.node.0 0 ≤ get_or c.args.layout.starts.now (c.args.node.0 + 1) 0) ×
-    (get_or c.args.layout.starts.now (c.args.node.0 + 1) 0 ≤ length c.args.pages.now) × (get_or c.args.layout.starts.now (c.args.node.0 + 1) 0 ≤ 1048576) = inside
-    c.requires.0 c.args.node.0 c.requires.1 in
-    part.1
+slice_bounds-has_free-end c = (inside c.requires.0 c.args.node.0 c.requires.1).1

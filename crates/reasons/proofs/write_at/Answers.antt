@@ -35,10 +35,10 @@ limited : (c : In_ok-admitted) → c.in_ok-admitted.admitted.limit.0 ≡ limit_o
 limited c = rw c.in_ok-admitted.was at c.admit.ensures.limit
 
 -- there is too little room
-pub returns-then-out-layout : goal.returns-then-out-layout
+pub returns-then-out-counts : goal.returns-then-out-counts
 unfolding record_of
-returns-then-out-layout c = let at = (goal.at.returns-then-out-layout c).After-admit in
-    too_short (machine at) (tables at) c.args.job c.args.cpu c.args.out.now (passed (goal.at.returns-then-out-layout c).In_ok-admitted) c.if-out-layout.true
+returns-then-out-counts c = let at = (goal.at.returns-then-out-counts c).After-admit in
+    too_short (machine at) (tables at) c.args.job c.args.cpu c.args.out.now (passed (goal.at.returns-then-out-counts c).In_ok-admitted) c.if-out-counts.true
 
 pub bounds-cpus-cpu : goal.bounds-cpus-cpu
 bounds-cpus-cpu c = ltb-true _ _ (let_through _ _ _ _ (passed (goal.at.bounds-cpus-cpu c).In_ok-admitted)).0.cpu
@@ -47,11 +47,11 @@ pub explain-requires : goal.explain-requires
 unfolding record_of
 explain-requires c = let at = (goal.at.explain-requires c).After-admit in
     let ok = (goal.at.explain-requires c).In_ok-admitted in
-    (explainable (machine at) (tables at) c.args.job c.args.cpu (limited ok) (passed ok) c.args.layout.begin, c.if-out-layout.false)
+    (explainable (machine at) (tables at) c.args.job c.args.cpu (limited ok) (passed ok) c.args.layout.begin, c.if-out-counts.false)
 
 -- the reasons
 pub returns : goal.returns
 unfolding record_of
 returns c = let at = (goal.at.returns c).After-admit in
     let ok = (goal.at.returns c).In_ok-admitted in
-    long_enough (machine at) (tables at) c.args.job c.args.cpu c.args.out.now (passed ok) (limited ok) c.if-out-layout.false c.explain.ensures
+    long_enough (machine at) (tables at) c.args.job c.args.cpu c.args.out.now (passed ok) (limited ok) c.if-out-counts.false c.explain.ensures
