@@ -64,9 +64,8 @@ returns-in-Clear c = let tables : Tables = tables_of c.args.pages.now c.args.job
 
 pub returns-in-Fresh : goal.returns-in-Fresh
 returns-in-Fresh c = let tables : Tables = tables_of c.args.pages.now c.args.jobs.now c.args.free.now c.args.maps.now in
-    let t = tables in
     record {
-      did = λ x s. did_fresh _ t _ _ _ _ _ x s c.in-Fresh.is (c.fresh.ensures.did t);
+      did = λ x s. did_fresh _ tables _ _ _ _ _ x s c.in-Fresh.is (c.fresh.ensures.did tables);
       kept = c.fresh.ensures.kept;
     }
 
