@@ -48,12 +48,21 @@ def law_fault(crate, file, name):
     return None if declared(text, name, r"pub\s+") else f"no law {name} in crates/{crate}/proofs/{file}.antt"
 
 
+def methods(text, name):
+    """What the `impl` blocks of a type hold, moved to the left as functions outside of them stand."""
+    blocks = re.findall(rf"^impl\b[^{{\n]*\b{name}\b[^{{\n]*\{{\n(.*?)^\}}", text, re.M | re.S)
+    return re.sub(r"^    ", "", "\n".join(blocks), flags=re.M)
+
+
 def contract(crate, names):
-    """The head of a public function, with its contract, up to the body's brace; none if there is no such function."""
-    files = [f"{names[0]}.rt"] if len(names) == 2 else ["lib.rt", "main.rt"]
+    """The head of a public function or method, with its contract, up to the body's brace; none if there is no such one."""
+    *modules, name = names
+    owner = modules.pop() if modules and modules[-1][0].isupper() else None
+    files = [f"{modules[0]}.rt"] if modules else ["lib.rt", "main.rt"]
     for file in files:
         text = text_of(CRATES / crate / "src" / file)
-        found = re.search(rf'^(?:pub (?:extern "C" )?fn|fn(?= main\b)) {names[-1]}\b', text, re.M)
+        text = methods(text, owner) if owner else text
+        found = re.search(rf'^(?:pub (?:extern "C" )?fn|fn(?= main\b)) {name}\b', text, re.M)
         # a clause's braces stand further in than the body's
         body = found and re.compile(r"^(?:\S.*)?\{$|^\S.*\{.*\}$", re.M).search(text, found.start())
         if body:
@@ -62,7 +71,7 @@ def contract(crate, names):
 
 
 def code_fault(crate, names, word=None, cited=None):
-    """`CRATE::NAME` or `CRATE::MODULE::NAME`, and what its contract is said to have."""
+    """`CRATE::NAME`, `CRATE::MODULE::NAME` or a method of a type there, and what its contract is said to have."""
     whole = "::".join([crate, *names])
     source = CRATES / crate / "src"
     head = contract(crate, names)

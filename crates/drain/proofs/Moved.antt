@@ -1,8 +1,8 @@
 -- What one move of a drain counts on: a held page of x that has somewhere to go may be carried there.
 -- Assumes nothing.
 use Prim.Native.Nat.{ℕ, ◌+◌, ◌-◌, ◌%◌, ◌≤◌, ◌<◌}
-use mathlib.Core.Path.{◌≡◌, sym, ap, ◌∙◌}
-use mathlib.Core.Bool.{true, ◌&&◌}
+use mathlib.Core.Path.{◌≡◌, refl, sym, ap, ◌∙◌}
+use mathlib.Core.Bool.{Bool, true, false, ◌&&◌}
 use mathlib.Core.List.{List, []}
 use mathlib.Core.Option.{some}
 use native.Mathlib.Nat.{lt_of_lt_of_le}
@@ -34,6 +34,15 @@ mover_few n jobs maps j ok may =
     let tables = (both_true {a = job_table_ok (length jobs)} (both_true {a = nodes_ok n} ok).1).0 in
     let few = both_true {a = leb 1 most} {b = leb most most_jobs} (both_true {a = eqb (length jobs % words_per_job) 0} tables).1 in
     lt_of_lt_of_le (ltb-true j most found) (leb-true most most_jobs few.1)
+
+-- none past them may be
+pub past_movers : (n : ℕ) (jobs maps : List ℕ) (j : ℕ) → mapped_tables_ok n (length jobs) (length maps) ≡ true → most_jobs ≤ j
+    → may_move n jobs maps j ≡ false
+past_movers n jobs maps j ok past = go (may_move n jobs maps j) refl
+  where
+    go : (b : Bool) → may_move n jobs maps j ≡ b → may_move n jobs maps j ≡ false
+    go true e = absurd (omega (arith, mover_few n jobs maps j ok e, past))
+    go false e = e
 
 module _ {counts starts order pages free : List ℕ} {x : ℕ} (d : Drainable counts starts x order pages free) where
   -- the count of x stays far below what a number holds

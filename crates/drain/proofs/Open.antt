@@ -5,7 +5,8 @@ use mathlib.Core.Path.{◌≡◌, refl, sym, ◌∙◌}
 use mathlib.Core.Bool.{Bool, true, false, ◌&&◌, cond}
 use mathlib.Core.List.{List, [], ◌∷◌}
 use mathlib.Core.Option.{none, some}
-use Rattle.std.specs.Prelude.{Option, None, Some}
+use Rattle.std.specs.Prelude.{Option, None, Some, MatchOption, is_some}
+use Rattle.std.specs.Option.{unwrap_or}
 use native.Mathlib.Decide.{ℕ_discrete}
 use native.Mathlib.Omega.{arith}
 use borrow.Author.Tests.{le-ltb, ltb-true, ltb-false}
@@ -14,6 +15,7 @@ use lib.ListN.{length, get_or, set, length-set, replicate, length-replicate}
 use lib.Seq.{get_or-set_same, get_or-set_other}
 use Rattle.rules.specs.Basics.{keep, first}
 use Rattle.rules.specs.Masks.{has}
+use Rattle.rules.specs.Records.{most_jobs}
 use Rattle.rules.specs.SearchOrder.{counted}
 use Rattle.rules.proofs.Lists.{both_true, in_table_lem, at_member, first_keep, first_member}
 use Rattle.nodemask.specs.declared.Mask.{Mask}
@@ -99,10 +101,10 @@ fails_next p a i f e k l h = go (ℕ_discrete k i)
 -- ---- what is kept
 
 -- at first nothing is
-pub none_met : (n : ℕ) (order jobs maps free : List ℕ) → Met n order jobs maps free (replicate 256 None)
+pub none_met : (n : ℕ) (order jobs maps free : List ℕ) → Met n order jobs maps free (replicate (most_jobs + 1) None)
 none_met n order jobs maps free = record {
-  long = length-replicate {A = Option MetJob} 256 None;
-  kept = λ b job e. absurd (let none : ◌≡◌ {A = Option MetJob} None (Some job) = sym (none_at 256 b) ∙ e in cc);
+  long = length-replicate {A = Option MetJob} (most_jobs + 1) None;
+  kept = λ b job e. absurd (let none : ◌≡◌ {A = Option MetJob} None (Some job) = sym (none_at (most_jobs + 1) b) ∙ e in cc);
 }
   where
     none_at : (k i : ℕ) → ◌≡◌ {A = Option MetJob} (get_or (replicate k None) i None) None
@@ -122,7 +124,7 @@ unfolding ClosedTo
 kept_first may is = record { movable = may; limit = is; within = omega arith; closed = λ i u g. absurd (omega arith) }
 
 -- what is kept of one more job, or of a job anew
-pub met_on : {n : ℕ} {order jobs maps free : List ℕ} {met : List (Option MetJob)} {b : ℕ} {job : MetJob} → b < 256
+pub met_on : {n : ℕ} {order jobs maps free : List ℕ} {met : List (Option MetJob)} {b : ℕ} {job : MetJob} → b ≤ most_jobs
     → Met n order jobs maps free met → Kept n order jobs maps free job b → Met n order jobs maps free (set met b (Some job))
 met_on {n} {order} {jobs} {maps} {free} {met} {b} {job} few m k = record {
   long = length-set met b (Some job) ∙ m.long;
@@ -136,6 +138,11 @@ met_on {n} {order} {jobs} {maps} {free} {met} {b} {job} few m k = record {
         let same : job ≡ other = cc in
         rw (q, ← same) k
     go c other e (no q) = m.kept c other (sym (get_or-set_other met b c (Some job) None q) ∙ e)
+
+-- it has been met now
+pub met_now : {n : ℕ} {order jobs maps free : List ℕ} {met : List (Option MetJob)} → Met n order jobs maps free met → (b : ℕ) (job : MetJob)
+    → b ≤ most_jobs → is_some (get_or (set met b (Some job)) b None) ≡ true
+met_now {n} {order} {jobs} {maps} {free} {met} m b job l = rw (get_or-set_same met b (Some job) None (omega (arith, m.long, l)))
 
 -- Of a job that is kept: what a look through the order from its position on finds.
 module _ {n : ℕ} {order jobs maps free : List ℕ} {job : MetJob} {b : ℕ} (own : Kept n order jobs maps free job b) where
@@ -153,14 +160,23 @@ module _ {n : ℕ} {order jobs maps free : List ℕ} {job : MetJob} {b : ℕ} (o
     unfolding goal_by
     goal_some o = rw (own.movable, ← own.limit) (sym (found_open order free job.limit.0 job.from at closed passed l o))
 
-    -- and what is kept goes on from there
-    pub kept_on : Kept n order jobs maps free (record { limit = job.limit; from = at }) b
-    kept_on = record {
-      movable = own.movable;
-      limit = own.limit;
-      within = omega arith;
-      closed = rw (← own.limit) (closed_on order free job.limit.0 job.from at closed passed);
-    }
+  -- what is kept goes on from where the look ended
+  pub kept_on : {at : ℕ} → AllShut order free job.limit.0 job.from at → at ≤ length order
+      → Kept n order jobs maps free (record { limit = job.limit; from = at }) b
+  kept_on {at} passed l = record {
+    movable = own.movable;
+    limit = own.limit;
+    within = l;
+    closed = rw (← own.limit) (closed_on order free job.limit.0 job.from at closed passed);
+  }
+
+  -- where an open node was found, or at the end of the order
+  pub kept_found : (r : Option ℕ) {kept : ℕ} → kept ≡ unwrap_or r (length order)
+      → MatchOption r (AllShut order free job.limit.0 job.from (length order)) (λ at. (job.from ≤ at) × (at < length order)
+      × AllShut order free job.limit.0 job.from at × (opens free job.limit.0 (get_or order at 0) ≡ true))
+      → Kept n order jobs maps free (record { limit = job.limit; from = kept }) b
+  kept_found None e shut = rw e (kept_on shut (omega arith))
+  kept_found (Some at) e found = rw e (kept_on found.2 (omega (arith, found.1)))
 
 -- a move makes no node of the order open
 pub met_moved : {n x : ℕ} {order jobs maps free : List ℕ} {met : List (Option MetJob)} (k : ℕ) → Ordered n x order free

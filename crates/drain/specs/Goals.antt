@@ -4,6 +4,7 @@ use Rattle.std.proofs.Math.Option as Math
 use Rattle.std.proofs.Math.Option.{none, some}
 use Rattle.rules.specs.Basics.{keep, first}
 use Rattle.rules.specs.Masks.{has, all_nodes}
+use Rattle.rules.specs.Records.{most_jobs}
 use Rattle.rules.specs.SearchOrder.{near, counted}
 use Rattle.rules.specs.Calls.{tables_of, limit_of}
 use Rattle.rules.specs.Drain.{is_movable}
@@ -57,7 +58,7 @@ pub record Kept (n : ℕ) (order jobs maps free : List ℕ) (job : MetJob) (b : 
 
 -- of every byte that has been met
 pub record Met (n : ℕ) (order jobs maps free : List ℕ) (met : List (Option MetJob)) : Type 0 where
-  pub long : length met ≡ 256
+  pub long : length met ≡ most_jobs + 1
   pub kept : (b : ℕ) (job : MetJob) → get_or met b None ≡ Some job → Kept n order jobs maps free job b
 
 -- What may be counted on: the nodes of the order are nodes other than x, there is a count for each node, and job table and maps are in order.

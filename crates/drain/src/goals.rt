@@ -1,7 +1,8 @@
 // Where each held page of a node goes, by the counts alone: of a page only its holder is looked at.
 
-ghost use Rattle.std.specs.Prelude.{true, false, cond, List, ◌≡◌, ℕ, ◌+◌, ◌-◌, ◌≤◌, ◌<◌, length, get_or, MatchOption};
+ghost use Rattle.std.specs.Prelude.{true, false, cond, is_some, None, List, ◌≡◌, ℕ, ◌+◌, ◌-◌, ◌≤◌, ◌<◌, length, get_or, MatchOption};
 ghost use Rattle.std.proofs.Math.Option.{none, some};
+ghost use Rattle.rules.specs.Records.{most_jobs};
 ghost use Rattle.rules.specs.Calls.{mapped_tables_ok};
 ghost use Rattle.rules.specs.Calls.{tables_of};
 ghost use Rattle.rules.specs.Drain.{held_pages, moves};
@@ -14,23 +15,26 @@ use nodemask::Mask;
 use placement;
 use placement::search;
 use records::table;
-use rules::{MOST_NODES, SysNode};
+use rules::{MOST_JOBS, MOST_NODES, SysNode};
 
-// So many bytes there are: what is kept of the jobs stands by the bytes that name them.
-const BYTES: usize = 256;
+// So many bytes there are: enough to name each job.
+pub const BYTES: usize = 256;
+
+const _: () = prove!(MOST_JOBS < BYTES);
 
 // What is kept of a job whose pages may be moved: the nodes that it may get, and a position of the order before which no node is open to it.
 #[derive(Clone, Copy)]
 pub struct MetJob {
-    limit: Mask,
-    from: u8,
+    pub limit: Mask,
+    pub from: u8,
 }
 
-// What is kept of the jobs that have been met, by the bytes that name them.
-pub type MetJobs = [Option<MetJob>; BYTES];
+// What is kept of the jobs that have been met, by the bytes that name them, 1 to 64. A table for all bytes would take four times the stack,
+// and more time to make than a drain of a few pages can spare.
+pub type MetJobs = [Option<MetJob>; MOST_JOBS + 1];
 
 // At first no job has been met.
-pub const NONE_MET: MetJobs = [None; BYTES];
+pub const NONE_MET: MetJobs = [None; MOST_JOBS + 1];
 
 // What says where a page goes: the other nodes, nearest first, job table and maps.
 #[derive(Clone, Copy)]
@@ -67,7 +71,7 @@ fn holder_of(nodes: usize, jobs: &[u64], maps: &[u8], byte: u8) -> Option<Mask>
 
 // The job of a byte, as it is kept, or judged now if it has not been met before; or none: its pages may not be moved.
 fn met_job(nodes: usize, targets: Targets, met: &MetJobs, byte: u8) -> Option<MetJob>
-    requires { (mapped_tables_ok nodes (length targets.jobs.now) (length targets.maps.now) ≡ true) × (0 < byte) }
+    requires { (mapped_tables_ok nodes (length targets.jobs.now) (length targets.maps.now) ≡ true) × (0 < byte) × (byte ≤ most_jobs) }
     ensures { let t = targets.entry in MatchOption result (may_move nodes t.jobs.now t.maps.now (byte - 1) ≡ false) (λ job. (order free : List ℕ) → Met nodes order t.jobs.now t.maps.now free met.now → Kept nodes order t.jobs.now t.maps.now free job byte) }
 {
     if let Some(job) = met[byte as usize] {
@@ -90,7 +94,7 @@ fn next_open(order: &[u8], free: &[u32], limit: Mask, from: usize) -> Option<usi
     None
 }
 
-// Where a page that has this byte goes.
+// Where a page that has this byte goes. Its job, if its pages may be moved, is one that has been met from then on.
 pub fn goal_of(
     nodes: usize,
     targets: Targets,
@@ -101,14 +105,20 @@ pub fn goal_of(
     requires { (mapped_tables_ok nodes (length targets.jobs.now) (length targets.maps.now) ≡ true) × (0 < byte) × (length targets.order.now ≤ 64) × Met nodes targets.order.now targets.jobs.now targets.maps.now free.now met.old }
     ensures goes { let t = targets.entry in goal_of result ≡ goal_by nodes t.order.now t.jobs.now t.maps.now free.now (byte - 1) }
     ensures kept { let t = targets.entry in Met nodes t.order.now t.jobs.now t.maps.now free.now met.new }
+    ensures met { let t = targets.entry in may_move nodes t.jobs.now t.maps.now (byte - 1) ≡ true → is_some (get_or met.new byte None) ≡ true }
 {
+    // A byte above names no job.
+    if MOST_JOBS < byte as usize {
+        return None;
+    }
     let job = met_job(nodes, targets, met, byte)?;
-    let at = next_open(targets.order, free, job.limit, job.from as usize)?;
-    met[byte as usize] = Some(MetJob {
+    let found = next_open(targets.order, free, job.limit, job.from as usize);
+    let kept = MetJob {
         limit: job.limit,
-        from: at as u8,
-    });
-    Some(SysNode(targets.order[at]))
+        from: found.unwrap_or(targets.order.len()) as u8,
+    };
+    met[byte as usize] = Some(kept);
+    Some(SysNode(targets.order[found?]))
 }
 
 // The counts after a move from x to another node.

@@ -48,6 +48,7 @@ pub fn strings_from(bytes: &[u8], k: usize) -> &[u8]
 }
 
 // The string, without its zero, may be a name; `last` says that it is the last of its list.
+#[inline]
 pub fn name_ok(word: &[u8], last: bool) -> bool
     ensures { result ≡ name_ok word.now last }
 {
@@ -83,7 +84,9 @@ fn count_names(list: &[u8]) -> Option<usize>
     Some(n)
 }
 
-// The same: a list that is too long is bad, whatever it holds.
+// The same: a list that is too long is bad, whatever it holds. Not inlined into `write_note`, which counts two lists: short names took two
+// fifths more time there.
+#[inline(never)]
 pub fn count(list: &[u8]) -> Option<usize>
     ensures { IsCount list.now result }
 {

@@ -2,7 +2,7 @@
 -- Assumes nothing.
 use Prim.Native.Nat.{ℕ, zero, suc, ◌+◌, ◌-◌, ◌*◌, ◌/◌, ◌%◌, ◌^◌, ◌≤◌, ◌<◌}
 use mathlib.Core.Path.{◌≡◌, refl, sym, ap, ◌∙◌}
-use mathlib.Core.Bool.{Bool, true, false, ◌&&◌, ◌||◌, cond, and-false, or-false}
+use mathlib.Core.Bool.{Bool, true, false, ◌&&◌, ◌||◌, cond, and-false, or-false, false≢true}
 use mathlib.Core.List.{List, [], ◌∷◌, ◌++◌, append_assoc}
 use native.Mathlib.Nat.{zero-add, add-zero, sub-zero, add-sub_cancel_left}
 use native.Mathlib.Decide.{dec_le}
@@ -20,6 +20,7 @@ use Rattle.rules.proofs.Bytes.{bytes_length, bytes_at}
 use Rattle.rules.proofs.Lists.{both_true, all_true, member_from, each_from_suc, all_from_step, all_from_end}
 use Rattle.book.specs.Says.{Named}
 use Rattle.std.specs.Prelude.{Option, Some, None, is_some}
+use Rattle.std.specs.Option.{unwrap_or}
 use Rattle.replay.specs.declared.encoding.Kind.{Kind}
 use Rattle.replay.specs.declared.encoding.Kind.TheVariants.{Request, Release, Rebind, Install, Clear, Fresh, Keep, SetMap, Drain}
 use Rattle.replay.specs.Kinds.{number_of, KindOf}
@@ -84,6 +85,12 @@ kind_among Drain = refl
 pub kind_known : (r : Option Kind) (call : List ℕ) → KindOf r (word_at call 0) → is_some r ≡ is_accepted (call_in call)
 kind_known (Some k) call h = sym (known_kind call ∙ ap (λ (w : ℕ). between 1 5 w || between 16 19 w) h ∙ kind_among k)
 kind_known None call h = sym (known_kind call ∙ h)
+
+-- the kind that a known call is read by
+pub kind_read : (r : Option Kind) (call : List ℕ) {c : Call} {k : Kind} → KindOf r (word_at call 0) → call_in call ≡ accept c → k ≡ unwrap_or r Fresh
+    → word_at call 0 ≡ number_of k
+kind_read (Some k) call h e u = h ∙ ap number_of (sym u)
+kind_read None call h e u = absurd (false≢true (sym (known_kind call ∙ h) ∙ ap is_accepted e))
 
 -- the call of a kind
 module _ (call : List ℕ) (c : Call) (e : call_in call ≡ accept c) where

@@ -1,6 +1,6 @@
 // A call as sixteen words, and an answer as one.
 
-ghost use Rattle.std.specs.Prelude.{◌≡◌, length, drop, IsSomeAnd};
+ghost use Rattle.std.specs.Prelude.{◌≡◌, length, drop};
 ghost use Rattle.rules.specs.Basics.{each};
 ghost use Rattle.rules.specs.Records.{bytes_of};
 ghost use Rattle.rules.specs.Maps.{map_size};
@@ -111,13 +111,13 @@ fn install_in(call: &[u64]) -> Call
     }
 }
 
-// The call that the words say, none where they are of no known kind; the list of a call that sets a map is put beside it.
-pub fn read_call(call: &[u64], list: &mut [u8; MAP_BYTES]) -> Option<Entry>
+// The call that the words say; the list of a call that sets a map is put beside it. Each call is of a known kind by now (`calls_ok`).
+pub fn read_call(call: &[u64], list: &mut [u8; MAP_BYTES]) -> Entry
     requires { (length call.now ≡ call_words) × (length list.old ≡ map_size) }
-    ensures says { (c : LawCall) → call_in call.now ≡ accept c → IsSomeAnd result (λ e. Says e.call e.places list.new c) }
+    ensures says { (c : LawCall) → call_in call.now ≡ accept c → Says result.call result.places list.new c }
     ensures long { length list.new ≡ map_size }
 {
-    let kind = kind_of(call[0])?;
+    let kind = kind_of(call[0]).unwrap_or(Kind::Fresh);
     let job = call[1] as usize;
     let len = call[5] as usize;
     let (call, places) = match kind {
@@ -149,7 +149,7 @@ pub fn read_call(call: &[u64], list: &mut [u8; MAP_BYTES]) -> Option<Entry>
             (Call::Drain { node: job, room }, NO_PLACES)
         }
     };
-    Some(Entry { call, places })
+    Entry { call, places }
 }
 
 // An answer in one word.

@@ -44,10 +44,7 @@ fn run_calls(
     for i in 0..n {
         let start = CALL_WORDS * i;
         let end = start + CALL_WORDS;
-        // Every kind is known by now, so that no call is passed over.
-        let Some(read) = encoding::read_call(&calls[start..end], &mut list) else {
-            continue;
-        };
+        let read = encoding::read_call(&calls[start..end], &mut list);
         let answer = book::perform(
             layout,
             &mut hints,

@@ -91,12 +91,13 @@ pub reach_of-reach-requires : goal.reach_of-reach-requires
 reach_of-reach-requires c = let square = (distances_in_order _ c.args.distances.now c.requires.0.searchable.table).square in
     (c.requires.0.paged.few, rw c.requires.0.one_each at square, c.of-plan.ensures.inside)
 
--- what the plan comes to, by the places of the job's record
+-- What the plan comes to, by the places of the job's record: as many as the length says, however that number is written.
 reaches : (c : After-reach_of-reach) → let at = (goal.at.After-reach_of-reach c).After-search-chosen in
     Reaches (nodes at) c.args.distances.now c.args.limit.0 (set_of (places_of (job at))) c.of-plan.result c.reach_of-reach.result
 unfolding places_of job_of record_with record_of bytes_of
 reaches c = let at = (goal.at.After-reach_of-reach c).After-search-chosen in
     let named : c.named-named.result.0 ≡ set_of (places_of (job at)) = c.named-named.ensures
+    ∙ ap (λ (k : ℕ). set_of (take k c.job-decoded.result.places)) (omega arith)
     ∙ ap (λ (r : Record). set_of (take c.args.loaded.len r.bytes)) (decoded at) in
     subst (λ (set : ℕ). Reaches (nodes at) c.args.distances.now c.args.limit.0 set c.of-plan.result c.reach_of-reach.result) named
     c.reach_of-reach.ensures

@@ -29,22 +29,14 @@ pub perform-answer-requires : goal.perform-answer-requires
 perform-answer-requires c = let tables : Tables = tables_of c.args.pages.now c.args.jobs.now c.args.free.now c.args.maps.now in
     (same_lengths_ok _ tables _ c.loop-i.invariant.long c.requires.0, c.loop-i.invariant.hinted)
 
--- no call is passed over
-pub loop-i-preserved-in_default : goal.loop-i-preserved-in_default
-loop-i-preserved-in_default c =
-    let words : List ℕ = c.args.calls.now in
-    let more : c.loop-i.i < call_count words = c.loop-i-test.true in
-    let x = accepted_some (call_in (words_of words c.loop-i.i)) (call_ok words c.loop-i.i c.requires.1 more) in
-    absurd (c.in_default.ensures.says x.0 (ap call_in (part_words words c.loop-i.i) ∙ x.1))
-
 pub loop-i-preserved : goal.loop-i-preserved
 loop-i-preserved c = let machine : Machine = machine_of c.args.layout.counts.now c.args.cpus.now c.args.distances.now in
     let tables : Tables = tables_of c.args.pages.now c.args.jobs.now c.args.free.now c.args.maps.now in
     let words : List ℕ = c.args.calls.now in
-    let list-long : length c.read_call.new.list ≡ 64 = c.read_call.ensures.long in
+    let list-long : length c.read_call-read.new.list ≡ 64 = c.read_call-read.ensures.long in
     let more : c.loop-i.i < call_count words = c.loop-i-test.true in
     let x = accepted_some (call_in (words_of words c.loop-i.i)) (call_ok words c.loop-i.i c.requires.1 more) in
-    let says = c.in-Some.ensures.says x.0 (ap call_in (part_words words c.loop-i.i) ∙ x.1) in
+    let says = c.read_call-read.ensures.says x.0 (ap call_in (part_words words c.loop-i.i) ∙ x.1) in
     record {
       long = lengths_then c.loop-i.invariant.long (record {
         ledger = c.perform-answer.auto.pages;

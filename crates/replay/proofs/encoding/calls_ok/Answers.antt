@@ -1,10 +1,10 @@
 -- `calls_ok` meets its contract. The loop: the tests made so far and those to come are the tests of all calls.
 -- Assumes nothing.
 use Prim.Native.Nat.{ℕ, ◌+◌, ◌*◌, ◌/◌, ◌<◌}
-use mathlib.Core.Path.{◌≡◌, refl, sym, ap, ◌∙◌}
+use mathlib.Core.Path.{◌≡◌, sym, ap, ◌∙◌}
 use mathlib.Core.List.{List}
 use native.Mathlib.Omega.{arith}
-use lib.ListN.{length, drop, length-drop}
+use lib.ListN.{length, length-drop}
 use Rattle.rules.specs.Decisions.{is_accepted}
 use Rattle.replay.specs.Encoding.{call_in}
 use Rattle.replay.proofs.Words.{cut_short, none_tested, one_tested, all_tested, kind_known, call_cut}

@@ -1,21 +1,17 @@
 -- `read_call` meets its contract, kind by kind.
 -- Assumes nothing.
 use mathlib.Core.Path.{◌≡◌, sym, ap, ◌∙◌}
-use mathlib.Core.Bool.{false≢true}
-use Rattle.rules.specs.Decisions.{is_accepted}
 use Rattle.replay.specs.Encoding.{word_at, list_in}
 use Rattle.replay.specs.Kinds.{number_of}
 use Rattle.replay.proofs.Words.{says_request, says_release, says_rebind, says_install, says_clear, says_fresh, says_keep, says_set, says_drain}
-use Rattle.replay.proofs.Words.{places_length, list_named, known_kind}
+use Rattle.replay.proofs.Words.{places_length, list_named, kind_read}
 use Rattle.replay.proofs.encoding.read_call.Goals as goal
 use Rattle.replay.proofs.encoding.read_call.Goals.{in-Request, in-Release, in-Rebind, in-Install, in-Clear, in-Fresh, in-Keep, in-SetMap, in-Drain}
 
-pub returns-in_err-kind-clause-says : goal.returns-in_err-kind-clause-says
-returns-in_err-kind-clause-says c x e = absurd (false≢true (sym (known_kind c.args.call.now ∙ c.in_err-kind.ensures) ∙ ap is_accepted e))
-
 pub returns-clause-says : goal.returns-clause-says
 returns-clause-says c x e =
-    let is : word_at c.args.call.now 0 ≡ number_of c.in_ok-kind.kind = c.in_ok-kind.ensures in
+    let is : word_at c.args.call.now 0 ≡ number_of c.unwrap_or-kind.result = kind_read c.kind_of.result c.args.call.now c.kind_of.ensures e
+    c.unwrap_or-kind.ensures in
     let named = list_named c.args.call.now c.requires.0 in
     elim c.match-kind.branch [
       | in-Install w ↦ rw (w.call-is, w.install_in.ensures) (
