@@ -58,6 +58,8 @@ def contract(crate, names):
     """The head of a public function or method, with its contract, up to the body's brace; none if there is no such one."""
     *modules, name = names
     owner = modules.pop() if modules and modules[-1][0].isupper() else None
+    if len(modules) > 1:
+        return None
     files = [f"{modules[0]}.rt"] if modules else ["lib.rt", "main.rt"]
     for file in files:
         text = text_of(CRATES / crate / "src" / file)
